@@ -1,0 +1,13 @@
+pub mod Variables
+pub mod WellTyped
+pub mod Found
+pub mod Replacing
+pub mod Tested
+pub mod LawProofs
+pub mod ShapeBeta
+pub mod Formulas
+pub mod Equations
+pub mod Renaming
+pub mod Lists
+pub mod Fresh
+pub mod Alpha

@@ -1,0 +1,11 @@
+pub mod Terms
+pub mod Substitution
+pub mod Shapes
+pub mod Connectives
+pub mod Axioms
+pub mod Derivations
+pub mod Views
+pub mod Rule
+pub mod AxiomTests
+pub mod Laws
+pub mod ShapeSteps

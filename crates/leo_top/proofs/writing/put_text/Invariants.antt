@@ -1,0 +1,13 @@
+use Rattle.std.proofs.Common.{length, ◌-◌, ◌≡◌, ◌++◌, ◌≤◌, take}
+use Rattle.std.specs.Option.{option_map}
+use Rattle.leo_top.proofs.writing.put_text.Given as goal
+
+abbrev pub invariant-loop-done : goal.invariant-loop-done
+invariant-loop-done g l = record {
+  within : l.done ≤ length l.text;
+  taken : g.O.Sink.taken l.out ≡ option_map (λ bytes. bytes ++ take l.done l.text) (g.O.Sink.taken l.initial.out);
+  never_falls : g.O.Sink.faults l.initial.out ≤ g.O.Sink.faults l.out;
+}
+
+abbrev pub decreases-loop-done : goal.decreases-loop-done
+decreases-loop-done g l = length l.text - l.done

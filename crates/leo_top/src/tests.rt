@@ -1,0 +1,159 @@
+use crate::{Status, leo3_alone};
+use leo_edge::{MemFiles, MemSink, Words};
+use std::alloc::{AllocError, Global};
+use std::test::Fail;
+
+/// Declares p, assumes p and conjectures p.
+const THEOREM: &[u8] = b"thf(p_type,type,p: $o).\nthf(a,axiom,p).\nthf(c,conjecture,p).\n";
+
+/// The answer to that problem.
+const REFUTATION: &[u8] = b"% SZS status Theorem for p.p
+% SZS output start Refutation for p.p
+thf(h0,axiom,p,file('p.p',a)).
+thf(h1,negated_conjecture,( ~ p ),inference(negate,[status(cth)],[file('p.p',c)])).
+thf(l0,plain,( p = $true ),inference(axiom,[status(thm),ev(0)],[h0])).
+thf(l1,plain,( ( ~ p ) = $true ),inference(axiom,[status(thm),ev(1)],[h1])).
+thf(l2,plain,( p = $false ),inference(logic,[status(thm),ev(0,not)],[l1])).
+thf(l3,plain,( ( $true = $false ) | ( p != p ) ),inference(para,[status(thm),ev(0,left,0,left,[])],[l0,l2])).
+thf(l4,plain,( p != p ),inference(drop,[status(thm),ev(0)],[l3])).
+thf(l5,plain,$false,inference(drop,[status(thm),ev(0)],[l4])).
+% SZS output end Refutation for p.p
+";
+
+fn command(alloc: Global, words: &[&str]) -> Result<Words, AllocError> {
+    let mut command = Words::new(alloc);
+    for word in words {
+        command.push(word)?;
+    }
+    Ok(command)
+}
+
+/// A problem's file and text, and the answer's status, code and text.
+#[derive(Drop)]
+struct Row {
+    file: &'static str,
+    problem: &'static [u8],
+    status: Status,
+    code: u8,
+    answer: &'static [u8],
+}
+
+#[test]
+fn problems_are_answered(rt: HostRuntime) -> Result<(), Fail> {
+    let rows = [
+        Row {
+            file: "p.p",
+            problem: THEOREM,
+            status: Status::Theorem,
+            code: 0,
+            answer: REFUTATION,
+        },
+        Row {
+            file: "q.p",
+            problem: b"thf(p_type,type,p: $o).thf(q_type,type,q:$o).thf(a,axiom,p).thf(c,conjecture,q).",
+            status: Status::GaveUp,
+            code: 1,
+            answer: b"% SZS status GaveUp for q.p\n% leo3: no clause left after 2 turns\n",
+        },
+        Row {
+            file: "e.p",
+            problem: b"",
+            status: Status::GaveUp,
+            code: 1,
+            answer: b"% SZS status GaveUp for e.p\n% leo3: no clause left after 0 turns\n",
+        },
+        Row {
+            file: "x.p",
+            problem: b"x",
+            status: Status::InputError,
+            code: 2,
+            answer: b"% SZS status InputError for x.p\n% leo3: x.p: form not built\n",
+        },
+        Row {
+            file: "undeclared.p",
+            problem: b"thf(a,axiom,p).",
+            status: Status::InputError,
+            code: 2,
+            answer: b"% SZS status InputError for undeclared.p\n% leo3: undeclared.p: form not built\n",
+        },
+    ];
+    for row in rows.iter() {
+        let mut files = MemFiles::new(rt.alloc());
+        files.add(row.file, row.problem)?;
+        let mut out = MemSink::new(rt.alloc());
+        let words = command(rt.alloc(), &["leo3", row.file])?;
+        let alone = leo3_alone(rt.alloc(), &words, &mut files, &mut out);
+        assert_eq!(rt; alone.status, row.status);
+        assert_eq!(rt; alone.code, row.code);
+        assert_eq!(rt; out.taken.as_slice(), row.answer);
+    }
+    Ok(())
+}
+
+#[test]
+fn the_later_hypothesis_comes_last(rt: HostRuntime) -> Result<(), Fail> {
+    let mut files = MemFiles::new(rt.alloc());
+    files.add(
+        "it's\n.p",
+        b"thf(c,conjecture,q) . thf(b,axiom,p). thf(a,axiom,q). thf(t,type,q : $o). thf(u,type,p:$o).",
+    )?;
+    let mut out = MemSink::new(rt.alloc());
+    let words = command(rt.alloc(), &["leo3", "it's\n.p"])?;
+    let alone = leo3_alone(rt.alloc(), &words, &mut files, &mut out);
+    assert_eq!(rt; alone.status, Status::Theorem);
+    let start = b"% SZS status Theorem for it's?.p
+% SZS output start Refutation for it's?.p
+thf(h0,negated_conjecture,( ~ q ),inference(negate,[status(cth)],[file('it\\'s?.p',c)])).
+thf(h2,axiom,q,file('it\\'s?.p',a)).
+thf(l0,plain,( q = $true ),inference(axiom,[status(thm),ev(2)],[h2])).
+thf(l1,plain,( ( ~ q ) = $true ),inference(axiom,[status(thm),ev(0)],[h0])).
+";
+    assert!(rt; out.taken.as_slice().starts_with(start.as_slice()));
+    Ok(())
+}
+
+#[test]
+fn words_that_are_no_command(rt: HostRuntime) -> Result<(), Fail> {
+    let mut files = MemFiles::new(rt.alloc());
+    let mut out = MemSink::new(rt.alloc());
+    let words = command(rt.alloc(), &["leo3"])?;
+    let alone = leo3_alone(rt.alloc(), &words, &mut files, &mut out);
+    assert_eq!(rt; alone.status, Status::UsageError);
+    assert_eq!(rt; alone.code, 3);
+    assert_eq!(rt;
+        out.taken.as_slice(),
+        b"% SZS status UsageError for leo3\n".as_slice()
+    );
+    Ok(())
+}
+
+#[test]
+fn files_and_sinks_that_fail(rt: HostRuntime) -> Result<(), Fail> {
+    let words = command(rt.alloc(), &["leo3", "p.p"])?;
+    let mut files = MemFiles::new(rt.alloc());
+    files.add("p.p", THEOREM)?;
+
+    let mut out = MemSink::new(rt.alloc());
+    out.failing.push(3)?;
+    let alone = leo3_alone(rt.alloc(), &words, &mut files, &mut out);
+    assert_eq!(rt; alone.status, Status::WriteFault);
+    assert_eq!(rt; alone.code, 5);
+    let two = b"% SZS status Theorem for p.p\n% SZS output start Refutation for p.p\n";
+    assert_eq!(rt; out.taken.as_slice(), two.as_slice());
+    assert_eq!(rt; out.puts, 3);
+
+    let mut parts = MemSink::new(rt.alloc());
+    parts.at_most = 7;
+    let alone = leo3_alone(rt.alloc(), &words, &mut files, &mut parts);
+    assert_eq!(rt; alone.status, Status::Theorem);
+    assert_eq!(rt; parts.taken.as_slice(), REFUTATION);
+
+    files.failing.push(3)?;
+    let mut third = MemSink::new(rt.alloc());
+    let alone = leo3_alone(rt.alloc(), &words, &mut files, &mut third);
+    assert_eq!(rt; alone.status, Status::OSError);
+    assert_eq!(rt; alone.code, 4);
+    let fault = b"% SZS status OSError for p.p\n% leo3: p.p: read fault\n";
+    assert_eq!(rt; third.taken.as_slice(), fault.as_slice());
+    Ok(())
+}
