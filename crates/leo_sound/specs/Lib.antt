@@ -1,0 +1,2 @@
+pub mod Propositions
+pub mod Laws
