@@ -1,0 +1,6 @@
+mod Links
+mod Chains
+mod Pushing
+mod Unlinking
+mod Growing
+mod Calls
