@@ -1,0 +1,7 @@
+mod Numbers
+mod Filters
+mod Removing
+mod Adding
+mod Looking
+mod Walking
+mod Calls
