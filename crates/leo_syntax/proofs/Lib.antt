@@ -1,0 +1,10 @@
+pub mod Sources
+pub mod Unescaping
+pub mod Bodies
+pub mod VariableLists
+pub mod Units
+pub mod Sound
+pub mod Table
+pub mod Unique
+pub mod Prefixes
+pub mod Files

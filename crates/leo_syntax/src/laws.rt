@@ -1,0 +1,19 @@
+//! What the grammar and its table say of each other.
+
+ghost use Rattle.std.specs.Prelude.{◌≡◌, ◌⊎◌, ℕ, List, ◌++◌};
+ghost use Rattle.leo_syntax.specs.declared.refusal.ReadRefusal.{ReadRefusal};
+ghost use Rattle.leo_syntax.specs.declared.refusal.ReadRefusal.TheVariants.{Syntax};
+ghost use Rattle.leo_syntax.specs.Lexemes.{Ahead};
+ghost use Rattle.leo_syntax.specs.Rules.{Part, goes_on, file_outcome, refused};
+ghost use Rattle.leo_syntax.specs.Prefix.{file_steps, GoesOn, InLevels, StopsWith};
+
+/// A law: a refusal is that of the first token with which no file goes on.
+pub fn refusals_are_first()
+    // A refused text ends early, or it has a first token that is refused.
+    ensures place { (end : ℕ) (ls : Ahead) (e : ReadRefusal) → file_outcome end ls ≡ refused e
+        → ((wanted : List Part) × (file_steps ls ≡ goes_on wanted) × (e ≡ Syntax end)) ⊎ StopsWith ls e }
+    // No file begins with the tokens up to and with that one.
+    ensures stays { (ls : Ahead) (e : ReadRefusal) (more : Ahead) (end : ℕ) → StopsWith ls e → file_outcome end (ls ++ more) ≡ refused e }
+    // Some file begins with the tokens before it, unless they lead beyond the last level.
+    ensures goes_on { (ls : Ahead) (wanted : List Part) → file_steps ls ≡ goes_on wanted → InLevels wanted → GoesOn ls }
+{}
