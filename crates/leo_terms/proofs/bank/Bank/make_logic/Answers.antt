@@ -1,0 +1,11 @@
+use Rattle.std.proofs.Common.{◌≡◌, slice_get, subst}
+use Rattle.leo_terms.specs.Contents.{Contents, IsSound}
+use Rattle.leo_terms.proofs.Making.{IsSoundNode-logic}
+use Rattle.leo_terms.proofs.bank.Bank.make_logic.Goals as goal
+
+pub numbered-requires : goal.numbered-requires
+numbered-requires c =
+    let x : c.argument_at-first.result ≡ slice_get c.args.args.now 0 = c.argument_at-first.ensures in
+    let y : c.argument_at-second.result ≡ slice_get c.args.args.now 1 = c.argument_at-second.ensures in
+    let s = subst (λ (v : Contents). IsSound v) c.self.view_is c.self.invariant.sound in
+    rw (x, y, c.ty-ty.ensures) (IsSoundNode-logic c.args.self.now s c.args.op c.args.args.now c.requires.within c.requires.type_within c.requires.typed)

@@ -1,0 +1,28 @@
+use Rattle.std.proofs.Common.{rules, arith, sym, subst, length}
+use Rattle.leo_terms.specs.Contents.{Contents, Grows, AddsShared, IsSoundType}
+use Rattle.leo_terms.specs.BankView.{contents_of}
+use Rattle.leo_terms.proofs.Growth.{grows_by_type}
+use Rattle.leo_terms.proofs.ListLemmas.{AddsShared-insert}
+use Rattle.leo_terms.proofs.MemoLemmas.{AreRight-grows}
+use Rattle.leo_terms.proofs.bank.Bank.type_numbered.Goals as goal
+use Rattle.leo_terms.proofs.bank.Bank.type_numbered.Goals.{In_ok-place}
+
+added_inside : (c : In_ok-place) → AddsShared c.self.inside.types.keys c.add.new.nodes.keys c.args.node c.in_ok-place.place
+added_inside c =
+    let e = c.in_ok-place.ensures in
+    AddsShared-insert _ e.reflexive _ _ _ _ _ e.unique e.keys (search rules)
+
+grows_inside : (c : In_ok-place) → Grows (contents_of c.self.inside) (contents_of (record c.self.inside { types = c.add.new.nodes }))
+grows_inside c = grows_by_type (contents_of c.self.inside) c.self.inside.bases c.add.new.nodes.keys c.args.node c.in_ok-place.place c.self.invariant.sound (omega arith) (added_inside c) (subst (λ (v : Contents). IsSoundType v.bases (length v.types) c.args.node) (sym c.self.view_is) c.requires)
+
+pub invariant_of-self-2 : goal.invariant_of-self-2
+invariant_of-self-2 c =
+    let at = (goal.at.invariant_of-self-2 c).In_ok-place in
+    let g = grows_inside at in
+    record { sound = g.new_sound; right = AreRight-grows _ _ g _ _ _ at.self.invariant.right }
+
+pub returns-clause-grows : goal.returns-clause-grows
+returns-clause-grows c = rw (← c.self.view_is) (grows_inside (goal.at.returns-clause-grows c).In_ok-place)
+
+pub returns-clause-added : goal.returns-clause-added
+returns-clause-added c = rw (← c.self.view_is, c.new.ensures) (added_inside (goal.at.returns-clause-added c).In_ok-place)

@@ -1,0 +1,8 @@
+use Rattle.leo_terms.proofs.Growth.{ty-keeps, tree-keeps}
+use Rattle.leo_terms.proofs.laws.growth_laws.Goals as goal
+
+pub returns-clause-types : goal.returns-clause-types
+returns-clause-types c old new g i h = ty-keeps old new g.old_sound g.keeps.types i h
+
+pub returns-clause-terms : goal.returns-clause-terms
+returns-clause-terms c old new g t h = tree-keeps old new g.old_sound g.keeps t h

@@ -1,0 +1,10 @@
+pub mod Tree
+pub mod Contents
+pub mod SymbolView
+pub mod Memo
+pub mod BankView
+pub mod Reduction
+pub mod Normal
+pub mod Typing
+pub mod Decode
+pub mod Laws
