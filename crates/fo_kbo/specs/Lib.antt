@@ -1,0 +1,6 @@
+pub mod Occurrences
+pub mod Order
+pub mod Laws
+pub mod Nodes
+pub mod Heads
+pub mod Difference
