@@ -7,18 +7,22 @@ use Rattle.leo_lex.specs.declared.token.Token.{Token}
 use Rattle.leo_lex.specs.declared.token.Kind.TheVariants.{Lower}
 use Rattle.leo_lex.specs.Cut.{Cut, done, pass, keep, AreTokens}
 use Rattle.leo_syntax.specs.declared.refusal.ReadRefusal.{ReadRefusal}
+use Rattle.leo_syntax.specs.declared.refusal.ReadRefusal.TheVariants.{Deep}
 use Rattle.leo_syntax.specs.declared.source.Source.{Source}
 use Rattle.leo_syntax.specs.declared.tree.Statement.{Statement}
 use Rattle.leo_syntax.specs.Fits.{TokensFit}
 use Rattle.leo_syntax.specs.Lexemes.{Lexeme, Ahead, lexeme, lexemes}
-use Rattle.leo_syntax.specs.Rules.{statement, outcome, file_outcome, accepted, refused}
+use Rattle.leo_syntax.specs.Rules.{Part, statement, outcome, file_outcome, accepted, refused}
+use Rattle.leo_syntax.specs.Prefix.{IsTaken}
 use Rattle.leo_syntax.specs.Reading as read
+use Rattle.leo_syntax.specs.Reading.{Read}
 use Rattle.leo_syntax.specs.Source.{ahead, end_of}
-use Rattle.leo_syntax.specs.Grammar.{IsStatement, IsFile, finished, another, IsHead, formula_statement, typing_statement}
-use Rattle.leo_syntax.proofs.Table.{ends, statement_table}
+use Rattle.leo_syntax.specs.Grammar.{IsStatement, IsFile, finished, another, IsHead, formula_statement, typing_statement, include_statement}
+use Rattle.leo_syntax.proofs.Table.{ends}
+use Rattle.leo_syntax.proofs.StatementTable.{statement_table}
 use Rattle.leo_syntax.proofs.Sound.{IfRead, statement_sound}
 use Rattle.leo_syntax.proofs.Sources.{ahead_none}
-use Rattle.leo_syntax.proofs.Unique.{statement_reads, same_statement}
+use Rattle.leo_syntax.proofs.Unique.{Reads, statement_reads, same_statement}
 
 -- what was read up to a place
 pub record Going (s : Source) (at : ℕ) (found : List Statement) : Type 0 where
@@ -82,6 +86,7 @@ no_head ls byte role_byte label word next e h = let t = h.takes_thf in absurd cc
 no_statement : (ls : Ahead) (s : Statement) (next : Ahead) → ls ≡ [] → IsStatement ls s next → ⊥
 no_statement ls s next e (formula_statement {l1 = l1} {byte = byte} {role_byte = role_byte} {name = label} {role = word} h r f k) = no_head ls byte role_byte label word l1 e h
 no_statement ls s next e (typing_statement {l1 = l1} {byte = byte} {role_byte = role_byte} {name = label} {role = word} h r f k) = no_head ls byte role_byte label word l1 e h
+no_statement ls s next e (include_statement b p h i q r) = let t = b.ahead_is in absurd cc
 
 empty_file : (ls : Ahead) (ss : List Statement) → ls ≡ [] → IsFile ls ss → ss ≡ []
 empty_file [] [] e finished = refl
@@ -102,3 +107,23 @@ cut_fits {bytes} {at} (keep b more) h (suc k) d less = cut_fits more (omega (ari
 
 pub tokens_fit : (bytes : List ℕ) (ts : List Token) → AreTokens bytes ts → TokensFit bytes ts
 tokens_fit bytes ts h = cut_fits h (omega arith)
+
+-- ---- a text of the grammar is refused for its levels only
+
+ends_taken : (end : ℕ) (r : Read Statement) (s : Statement) (after : Ahead) (parts : List Part) → Reads r s after → IsTaken (outcome end after parts) → IsTaken (ends end r parts)
+ends_taken end (Ok p) s after parts h t = rw h.1 t
+ends_taken end (Err (Deep byte)) s after parts h t = tt
+ends_taken end (Err _) s after parts h t = absurd h
+
+statement_some : {ls after : Ahead} {s : Statement} → IsStatement ls s after → (l : Lexeme) × (more : Ahead) × (ls ≡ l ∷ more)
+statement_some (formula_statement {l1 = l1} h r f k) = (h.thf, h.l1, h.takes_thf)
+statement_some (typing_statement {l1 = l1} h r f k) = (h.thf, h.l1, h.takes_thf)
+statement_some (include_statement {l1 = l1} b p h i q r) = (b.token, l1, b.ahead_is)
+
+first_outcome : (end : ℕ) {ls after : Ahead} {s : Statement} → IsStatement ls s after → outcome end ls (statement ∷ []) ≡ ends end (read.statement end ls) (statement ∷ [])
+first_outcome end {ls} h = let a = statement_some h in rw a.2 (statement_table end a.0 a.1)
+
+pub file_taken : (end : ℕ) (ls : Ahead) (list : List Statement) → IsFile ls list → IsTaken (file_outcome end ls)
+file_taken end [] [] finished = subst IsTaken (sym (nothing_ahead end)) tt
+file_taken end (_ ∷ _) [] x = elim x [ ]
+file_taken end ls (s ∷ ss) (another {after = after} is f) = rw (first_outcome end is) (ends_taken end (read.statement end ls) s after (statement ∷ []) (statement_reads end ls after s is) (file_taken end after ss f))

@@ -1,10 +1,14 @@
 pub mod Sources
 pub mod Unescaping
+pub mod WrittenLists
 pub mod Bodies
 pub mod VariableLists
 pub mod Units
+pub mod AnnotationSteps
 pub mod Sound
+pub mod Names
 pub mod Table
+pub mod StatementTable
 pub mod Unique
 pub mod Prefixes
 pub mod Files

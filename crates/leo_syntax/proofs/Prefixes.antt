@@ -3,12 +3,16 @@ use Rattle.std.proofs.Common.{◌≡◌, ℕ, ◌+◌, ◌≤◌, ◌⊎◌, Boo
 use Rattle.std.specs.Prelude.{nat_le, codes, Option, Some, None}
 use Rattle.std.proofs.lemmas.Bool.Decides.{nat_tests}
 use Rattle.leo_lex.specs.declared.mark.Mark.{Mark}
-use Rattle.leo_lex.specs.declared.mark.Mark.TheVariants.{OpenRound, CloseRound, OpenSquare, CloseSquare, Comma, Dot, Colon}
-use Rattle.leo_lex.specs.declared.token.Kind.TheVariants.{Lower, Upper, Dollar, Mark as MarkToken}
+use Rattle.leo_lex.specs.declared.mark.Mark.TheVariants.{OpenRound, CloseRound, OpenSquare, CloseSquare, CloseCurly, Comma, Dot, Colon}
+use Rattle.leo_lex.specs.declared.token.Kind.TheVariants.{Lower, Upper, Dollar, Quoted, Mark as MarkToken}
 use Rattle.leo_syntax.specs.declared.classes.Class.{Class}
 use Rattle.leo_syntax.specs.declared.classes.Class.TheVariants as class
 use Rattle.leo_syntax.specs.declared.classes.Keyword.{Keyword}
 use Rattle.leo_syntax.specs.declared.classes.Keyword.TheVariants as keyword
+use Rattle.leo_syntax.specs.declared.classes.Shape.{Shape}
+use Rattle.leo_syntax.specs.declared.classes.Shape.TheVariants as shape
+use Rattle.leo_syntax.specs.declared.classes.Bracket.{Bracket}
+use Rattle.leo_syntax.specs.declared.classes.Bracket.TheVariants as bracket
 use Rattle.leo_syntax.specs.declared.classes.Guard.{Guard}
 use Rattle.leo_syntax.specs.declared.classes.Guard.TheVariants as guard
 use Rattle.leo_syntax.specs.declared.tree.Connective.{Connective}
@@ -16,11 +20,11 @@ use Rattle.leo_syntax.specs.declared.tree.Connective.TheVariants.{Or, And}
 use Rattle.leo_syntax.specs.declared.refusal.Form.{Form}
 use Rattle.leo_syntax.specs.declared.refusal.ReadRefusal.{ReadRefusal}
 use Rattle.leo_syntax.specs.declared.refusal.ReadRefusal.TheVariants.{Syntax}
-use Rattle.leo_syntax.specs.Classes.{class_by, mark_class, dollar_class, guard_form}
-use Rattle.leo_syntax.specs.Lexemes.{Lexeme, Ahead, is_mark, same_mark, is_mark_kind, class_of, keyword_of, said_by, name_of, lower_of, upper_of, guarded}
+use Rattle.leo_syntax.specs.Classes.{class_by, mark_class, mark_bracket, bracket_by, same_shape, dollar_class, guard_form}
+use Rattle.leo_syntax.specs.Lexemes.{Lexeme, Ahead, is_mark, same_mark, is_mark_kind, class_of, keyword_of, bracket_of, said_by, name_of, lower_of, upper_of, quoted_of, guarded}
 use Rattle.leo_syntax.specs.Grammar.{is_type_role}
 use Rattle.leo_syntax.specs.Rules as rules
-use Rattle.leo_syntax.specs.Rules.{Part, statement, mark, reaches, guarding, name, role, typing, operand_type, arrows, unary, side, argument, inside, negated, arguments, equals, operators, operands, variable, variables, Move, take, refuse, rule, within_levels, begin_unary, moved, Step, step, goes_on, stops, after_step, Outcome, accepted, refused, outcome, all_may_end}
+use Rattle.leo_syntax.specs.Rules.{Part, statement, mark, reaches, guarding, name, role, typing, operand_type, arrows, unary, side, argument, inside, negated, arguments, equals, operators, operands, variable, variables, ending, annotation, annotated, file, selection, selected, names, Move, take, refuse, rule, within_levels, begin_unary, moved, Step, step, goes_on, stops, after_step, Outcome, accepted, refused, outcome, all_may_end}
 use Rattle.leo_syntax.specs.Prefix.{InLevels, then_steps, steps, file_steps, GoesOn, StopsWith}
 use Rattle.leo_syntax.proofs.Sound.{or_false}
 
@@ -80,11 +84,20 @@ abbrev NotOpening : List Part → Type 0
 NotOpening (mark OpenRound ∷ ps) = ⊥
 NotOpening _ = Unit {0}
 
+-- what may be missing before a `)`, or goes on up to it, stands before it
+abbrev Closing : List Part → Type 0
+Closing (mark CloseRound ∷ ps) = Unit {0}
+Closing _ = ⊥
+
 abbrev Fine : Part → List Part → Type 0
 Fine statement ps = ps ≡ []
 Fine (mark OpenRound) ps = Unit {0}
 Fine (mark m) ps = is_closing m ≡ true
 Fine (operands c level) ps = is_chain c ≡ true
+Fine ending ps = Closing ps
+Fine annotation ps = Closing ps
+Fine (annotated due) ps = Closing ps
+Fine selection ps = Closing ps
 Fine _ ps = Unit {0}
 
 abbrev AllFine : List Part → Type 0
@@ -210,8 +223,8 @@ typing_fine _ level l ps h = tt
 
 body_fine : (word : List ℕ) (ps : List Part) → Behind ps → AllFine (rules.body_of word ++ ps)
 body_fine word ps h = elim (or_false (is_type_role word)) [
-  | inl t ↦ rw t (tt, (tt, (refl, (tt, (refl, h)))))
-  | inr f ↦ rw f (tt, (tt, (tt, (tt, (refl, (tt, (refl, h)))))))
+  | inl t ↦ rw t (tt, (tt, (tt, (tt, (refl, (tt, (refl, h)))))))
+  | inr f ↦ rw f (tt, (tt, (tt, (tt, (tt, (tt, (refl, (tt, (refl, h)))))))))
 ]
 
 body_opens : (word : List ℕ) (ps : List Part) → NotOpening (rules.body_of word ++ ps)
@@ -223,7 +236,23 @@ role_fine None l ps h = tt
 
 statement_fine : (k : Keyword) (l : Lexeme) (ps : List Part) → ps ≡ [] → FineMove (rules.statement_by k l) ps
 statement_fine keyword.Thf l ps h = (tt, (tt, (tt, (tt, (tt, (tt, (refl, (tt, (tt, (tt, (h, rw h (tt, tt))))))))))))
-statement_fine _ l ps h = tt
+statement_fine keyword.Include l ps h = (tt, (tt, (tt, (tt, (tt, (tt, (tt, (tt, (refl, (tt, (refl, (tt, (h, rw h (tt, tt))))))))))))))
+statement_fine keyword.Other l ps h = tt
+
+annotation_fine : (b : Bracket) (l : Lexeme) (ps : List Part) → Closing ps → Behind ps → FineMove (rules.annotation_by b l) ps
+annotation_fine (bracket.Opens s) l ps f h = (f, h)
+annotation_fine (bracket.Closes s) l ps f h = tt
+annotation_fine bracket.Plain l ps f h = (f, h)
+
+closes_fine : (due : List Shape) (s : Shape) (l : Lexeme) (ps : List Part) → Closing ps → Behind ps → FineMove (rules.closes_by due s l) ps
+closes_fine [] shape.Round l ps f h = tt
+closes_fine [] _ l ps f h = tt
+closes_fine (d ∷ others) s l ps f h = elim (or_false (same_shape s d)) [ inl t ↦ rw t (f, h) | inr g ↦ rw g tt ]
+
+annotated_fine : (b : Bracket) (due : List Shape) (l : Lexeme) (ps : List Part) → Closing ps → Behind ps → FineMove (rules.annotated_by b due l) ps
+annotated_fine (bracket.Opens s) due l ps f h = (f, h)
+annotated_fine (bracket.Closes s) due l ps f h = closes_fine due s l ps f h
+annotated_fine bracket.Plain due l ps f h = (f, h)
 
 guard_fine : (o : Option Form) (l : Lexeme) (ps : List Part) → FineMove (rules.guarding_by o l) ps
 guard_fine (Some form) l ps = tt
@@ -251,6 +280,13 @@ rule_fine (operators level) l ps f h = operators_fine (class_of l) level ps h
 rule_fine (operands c level) l ps f h = operands_fine c (class_of l) level ps f h
 rule_fine (variable level) l ps f h = some_fine (upper_of l) (mark Colon ∷ rules.typed level []) _ ps (refl, (tt, typed_fine level ps h)) tt
 rule_fine (variables level body) l ps f h = mark_fine Comma l (variable level ∷ variables level (body + 1) ∷ []) _ ps (tt, (tt, (tt, h))) (mark_fine CloseSquare l (mark Colon ∷ unary body ∷ []) _ ps (refl, (tt, (tt, h))) tt)
+rule_fine ending l ps f h = mark_fine Comma l (annotation ∷ []) _ ps (f, h) tt
+rule_fine annotation l ps f h = annotation_fine (bracket_of l) l ps f h
+rule_fine (annotated due) l ps f h = annotated_fine (bracket_of l) due l ps f h
+rule_fine file l ps f h = some_fine (quoted_of l) [] _ ps h.1 tt
+rule_fine selection l ps f h = mark_fine Comma l (mark OpenSquare ∷ selected ∷ []) _ ps (refl, (tt, (tt, h))) tt
+rule_fine selected l ps f h = mark_fine CloseSquare l [] _ ps h.1 (some_fine (name_of l) (names ∷ []) _ ps (tt, h) tt)
+rule_fine names l ps f h = mark_fine Comma l (name ∷ names ∷ []) _ ps (tt, (tt, (tt, h))) (mark_fine CloseSquare l [] _ ps h.1 tt)
 
 pub step_fine : (ps : List Part) (l : Lexeme) → AllFine ps → IfGoes (step ps l)
 step_fine [] l h = tt
@@ -273,6 +309,9 @@ some_lower = record { kind = Lower; text = 97 ∷ []; byte = 0 }
 some_upper : Lexeme
 some_upper = record { kind = Upper; text = 65 ∷ []; byte = 0 }
 
+some_quoted : Lexeme
+some_quoted = record { kind = Quoted; text = codes "'a'"; byte = 0 }
+
 some_dollar : List ℕ → Lexeme
 some_dollar word = record { kind = Dollar; text = word; byte = 0 }
 
@@ -284,6 +323,16 @@ truth = some_dollar (codes "$true")
 
 individual : Lexeme
 individual = some_dollar (codes "$i")
+
+closer : Shape → Mark
+closer shape.Round = CloseRound
+closer shape.Square = CloseSquare
+closer shape.Curly = CloseCurly
+
+-- the brackets that close those that are open
+closers : List Shape → Ahead → Ahead
+closers [] ls = ls
+closers (s ∷ due) ls = some_mark (closer s) ∷ closers due ls
 
 unfoldable complete : List Part → Ahead
 complete [] = []
@@ -300,6 +349,11 @@ complete (inside level ∷ ps) = truth ∷ some_mark CloseRound ∷ complete ps
 complete (negated level ∷ ps) = some_mark CloseRound ∷ complete ps
 complete (variable level ∷ ps) = some_upper ∷ some_mark Colon ∷ individual ∷ complete ps
 complete (variables level body ∷ ps) = some_mark CloseSquare ∷ some_mark Colon ∷ truth ∷ complete ps
+complete (annotation ∷ ps) = some_lower ∷ complete ps
+complete (annotated due ∷ ps) = closers due (complete ps)
+complete (file ∷ ps) = some_quoted ∷ complete ps
+complete (selected ∷ ps) = some_mark CloseSquare ∷ complete ps
+complete (names ∷ ps) = some_mark CloseSquare ∷ complete ps
 complete (_ ∷ ps) = complete ps
 
 -- what an optional part passes over
@@ -333,6 +387,21 @@ mark_quiet m ps n f = closing_quiet m f
 lower_quiet : quiet (class_of some_lower) ≡ true
 unfolding some_lower class_by
 lower_quiet = refl
+
+quoted_quiet : quiet (class_of some_quoted) ≡ true
+unfolding some_quoted class_by
+quoted_quiet = refl
+
+closer_quiet : (s : Shape) → quiet (class_of (some_mark (closer s))) ≡ true
+unfolding some_mark closer class_by mark_class
+closer_quiet shape.Round = refl
+closer_quiet shape.Square = refl
+closer_quiet shape.Curly = refl
+
+closers_quiet : (due : List Shape) (ls : Ahead) → Quiet ls → Quiet (closers due ls)
+unfolding closers
+closers_quiet [] ls q = q
+closers_quiet (s ∷ due) ls q = closer_quiet s
 
 upper_quiet : quiet (class_of some_upper) ≡ true
 unfolding some_upper class_by
@@ -369,6 +438,13 @@ complete_quiet (arguments level ∷ ps) n h = complete_quiet ps h.1.0 h.1.1
 complete_quiet (equals level ∷ ps) n h = complete_quiet ps h.1.0 h.1.1
 complete_quiet (operators level ∷ ps) n h = complete_quiet ps h.1.0 h.1.1
 complete_quiet (operands c level ∷ ps) n h = complete_quiet ps h.1.0 h.1.1
+complete_quiet (ending ∷ ps) n h = complete_quiet ps h.1.0 h.1.1
+complete_quiet (annotation ∷ ps) n h = lower_quiet
+complete_quiet (annotated due ∷ ps) n h = closers_quiet due (complete ps) (complete_quiet ps h.1.0 h.1.1)
+complete_quiet (file ∷ ps) n h = quoted_quiet
+complete_quiet (selection ∷ ps) n h = complete_quiet ps h.1.0 h.1.1
+complete_quiet (selected ∷ ps) n h = closing_quiet CloseSquare refl
+complete_quiet (names ∷ ps) n h = closing_quiet CloseSquare refl
 
 -- ---- an optional part is skipped before a quiet token
 
@@ -508,7 +584,62 @@ typed_goes level ls ps h q =
 term_goes : (level : ℕ) (ls : Ahead) (ps : List Part) → level ≤ 500 → Quiet ls → outcome 0 (truth ∷ ls) (unary level ∷ ps) ≡ outcome 0 ls ps
 term_goes level ls ps h q = unary_goes level ls ps h ∙ skip_arguments level ls (equals level ∷ ps) q ∙ skip_equals level ls ps q
 
-role_goes : (ls : Ahead) (ps : List Part) → outcome 0 (some_lower ∷ ls) (role ∷ ps) ≡ outcome 0 ls (mark Comma ∷ unary 0 ∷ operators 0 ∷ mark CloseRound ∷ mark Dot ∷ ps)
+-- what may be missing before a `)` is
+skip_ending : (ls : Ahead) (ps : List Part) → outcome 0 (some_mark CloseRound ∷ ls) (ending ∷ ps) ≡ outcome 0 (some_mark CloseRound ∷ ls) ps
+unfolding outcome rule some_mark is_mark_kind same_mark
+skip_ending ls ps = refl
+
+skip_selection : (ls : Ahead) (ps : List Part) → outcome 0 (some_mark CloseRound ∷ ls) (selection ∷ ps) ≡ outcome 0 (some_mark CloseRound ∷ ls) ps
+unfolding outcome rule some_mark is_mark_kind same_mark
+skip_selection ls ps = refl
+
+skip_matched : (ls : Ahead) (ps : List Part) → outcome 0 (some_mark CloseRound ∷ ls) (annotated [] ∷ ps) ≡ outcome 0 (some_mark CloseRound ∷ ls) ps
+unfolding outcome rule some_mark bracket_by mark_bracket
+skip_matched ls ps = refl
+
+closer_goes : (s : Shape) (due : List Shape) (ls : Ahead) (ps : List Part) → outcome 0 (some_mark (closer s) ∷ ls) (annotated (s ∷ due) ∷ ps) ≡ outcome 0 ls (annotated due ∷ ps)
+unfolding outcome rule some_mark closer bracket_by mark_bracket same_shape
+closer_goes shape.Round due ls ps = refl
+closer_goes shape.Square due ls ps = refl
+closer_goes shape.Curly due ls ps = refl
+
+closers_go : (due : List Shape) (ls : Ahead) (ps : List Part) → outcome 0 (closers due ls) (annotated due ∷ ps) ≡ outcome 0 ls (annotated [] ∷ ps)
+unfolding closers
+closers_go [] ls ps = refl
+closers_go (s ∷ due) ls ps = closer_goes s due (closers due ls) ps ∙ closers_go due ls ps
+
+annotation_goes : (ls : Ahead) (ps : List Part) → outcome 0 (some_lower ∷ ls) (annotation ∷ ps) ≡ outcome 0 ls (annotated [] ∷ ps)
+unfolding outcome rule some_lower bracket_by
+annotation_goes ls ps = refl
+
+-- the same where what comes behind is completed
+close_first : (ps : List Part) → Closing ps → (ls : Ahead) × (complete ps ≡ some_mark CloseRound ∷ ls)
+unfolding complete
+close_first (mark CloseRound ∷ ps) h = (complete ps, refl)
+close_first _ h = absurd h
+
+ending_completes : (ps : List Part) → Closing ps → outcome 0 (complete ps) (ending ∷ ps) ≡ outcome 0 (complete ps) ps
+ending_completes ps h = let c = close_first ps h in rw c.1 (skip_ending c.0 ps)
+
+selection_completes : (ps : List Part) → Closing ps → outcome 0 (complete ps) (selection ∷ ps) ≡ outcome 0 (complete ps) ps
+selection_completes ps h = let c = close_first ps h in rw c.1 (skip_selection c.0 ps)
+
+matched_completes : (ps : List Part) → Closing ps → outcome 0 (complete ps) (annotated [] ∷ ps) ≡ outcome 0 (complete ps) ps
+matched_completes ps h = let c = close_first ps h in rw c.1 (skip_matched c.0 ps)
+
+file_goes : (ls : Ahead) (ps : List Part) → outcome 0 (some_quoted ∷ ls) (file ∷ ps) ≡ outcome 0 ls ps
+unfolding outcome rule some_quoted said_by
+file_goes ls ps = refl
+
+selected_goes : (ls : Ahead) (ps : List Part) → outcome 0 (some_mark CloseSquare ∷ ls) (selected ∷ ps) ≡ outcome 0 ls ps
+unfolding outcome rule some_mark is_mark_kind same_mark
+selected_goes ls ps = refl
+
+names_goes : (ls : Ahead) (ps : List Part) → outcome 0 (some_mark CloseSquare ∷ ls) (names ∷ ps) ≡ outcome 0 ls ps
+unfolding outcome rule some_mark is_mark_kind same_mark
+names_goes ls ps = refl
+
+role_goes : (ls : Ahead) (ps : List Part) → outcome 0 (some_lower ∷ ls) (role ∷ ps) ≡ outcome 0 ls (mark Comma ∷ unary 0 ∷ operators 0 ∷ ending ∷ mark CloseRound ∷ mark Dot ∷ ps)
 unfolding outcome rule some_lower said_by
 role_goes ls ps = refl
 
@@ -517,9 +648,10 @@ role_completes ls ps =
     let close : Ahead = some_mark CloseRound ∷ some_mark Dot ∷ ls in
     let q : Quiet close = closing_quiet CloseRound refl in
     role_goes (some_mark Comma ∷ truth ∷ close) ps
-    ∙ mark_goes Comma (truth ∷ close) (unary 0 ∷ operators 0 ∷ mark CloseRound ∷ mark Dot ∷ ps)
-    ∙ term_goes 0 close (operators 0 ∷ mark CloseRound ∷ mark Dot ∷ ps) (omega arith) q
-    ∙ skip_operators 0 close (mark CloseRound ∷ mark Dot ∷ ps) q
+    ∙ mark_goes Comma (truth ∷ close) (unary 0 ∷ operators 0 ∷ ending ∷ mark CloseRound ∷ mark Dot ∷ ps)
+    ∙ term_goes 0 close (operators 0 ∷ ending ∷ mark CloseRound ∷ mark Dot ∷ ps) (omega arith) q
+    ∙ skip_operators 0 close (ending ∷ mark CloseRound ∷ mark Dot ∷ ps) q
+    ∙ skip_ending (some_mark Dot ∷ ls) (mark CloseRound ∷ mark Dot ∷ ps)
     ∙ mark_goes CloseRound (some_mark Dot ∷ ls) (mark Dot ∷ ps)
     ∙ mark_goes Dot ls ps
 
@@ -564,6 +696,13 @@ completes (operators level ∷ ps) h k = skip_operators level (complete ps) ps (
 completes (operands c level ∷ ps) h k = skip_operands c level (complete ps) ps (complete_quiet ps h.1.0 h.1.1) ∙ completes ps h.1.1 k.1
 completes (variable level ∷ ps) h k = variable_goes level (some_mark Colon ∷ individual ∷ complete ps) ps ∙ typed_goes level (complete ps) ps k.0 (complete_quiet ps h.1.0 h.1.1) ∙ completes ps h.1.1 k.1
 completes (variables level body ∷ ps) h k = variables_goes level body (some_mark Colon ∷ truth ∷ complete ps) ps ∙ mark_goes Colon (truth ∷ complete ps) (unary body ∷ ps) ∙ term_goes body (complete ps) ps k.0 (complete_quiet ps h.1.0 h.1.1) ∙ completes ps h.1.1 k.1
+completes (ending ∷ ps) h k = ending_completes ps h.0 ∙ completes ps h.1.1 k.1
+completes (annotation ∷ ps) h k = annotation_goes (complete ps) ps ∙ matched_completes ps h.0 ∙ completes ps h.1.1 k.1
+completes (annotated due ∷ ps) h k = closers_go due (complete ps) ps ∙ matched_completes ps h.0 ∙ completes ps h.1.1 k.1
+completes (file ∷ ps) h k = file_goes (complete ps) ps ∙ completes ps h.1.1 k.1
+completes (selection ∷ ps) h k = selection_completes ps h.0 ∙ completes ps h.1.1 k.1
+completes (selected ∷ ps) h k = selected_goes (complete ps) ps ∙ completes ps h.1.1 k.1
+completes (names ∷ ps) h k = names_goes (complete ps) ps ∙ completes ps h.1.1 k.1
 
 -- what is taken can be completed to a file
 pub taken_goes_on : (ls : Ahead) (parts : List Part) → file_steps ls ≡ goes_on parts → InLevels parts → GoesOn ls

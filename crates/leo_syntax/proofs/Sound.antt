@@ -1,5 +1,5 @@
 -- What is read is in the grammar.
-use Rattle.std.proofs.Common.{◌≡◌, ℕ, zero, suc, ◌⊎◌, Bool, true, false, cond, List, [], ◌∷◌, ◌++◌, refl, sym, subst, inl, inr, length, ◌-◌}
+use Rattle.std.proofs.Common.{◌≡◌, ℕ, zero, suc, ◌⊎◌, Bool, true, false, cond, List, [], ◌∷◌, ◌++◌, refl, sym, subst, inl, inr, length, ◌-◌, ap, ◌∙◌}
 use Rattle.std.specs.Prelude.{Ok, Err, Option, Some, None}
 use Rattle.leo_lex.specs.declared.mark.Mark.{Mark}
 use Rattle.leo_lex.specs.declared.mark.Mark.TheVariants.{OpenRound, CloseRound, OpenSquare, CloseSquare, Comma, Dot, Colon}
@@ -8,6 +8,10 @@ use Rattle.leo_syntax.specs.declared.classes.Class.TheVariants as class
 use Rattle.leo_syntax.specs.declared.classes.Keyword.{Keyword}
 use Rattle.leo_syntax.specs.declared.classes.Keyword.TheVariants as keyword
 use Rattle.leo_syntax.specs.declared.classes.Guard.TheVariants as guard
+use Rattle.leo_syntax.specs.declared.classes.Shape.{Shape}
+use Rattle.leo_syntax.specs.declared.classes.Shape.TheVariants as shape
+use Rattle.leo_syntax.specs.declared.classes.Bracket.{Bracket}
+use Rattle.leo_syntax.specs.declared.classes.Bracket.TheVariants as bracket
 use Rattle.leo_syntax.specs.declared.tree.Binder.{Binder}
 use Rattle.leo_syntax.specs.declared.tree.Connective.{Connective}
 use Rattle.leo_syntax.specs.declared.tree.Connective.TheVariants.{Or, And}
@@ -15,10 +19,11 @@ use Rattle.leo_syntax.specs.declared.tree.TypeTree.{TypeTree}
 use Rattle.leo_syntax.specs.declared.tree.Variable.{Variable}
 use Rattle.leo_syntax.specs.declared.tree.Tree.{Tree}
 use Rattle.leo_syntax.specs.declared.typed.Typed.{Typed}
-use Rattle.leo_syntax.specs.Lexemes.{Lexeme, Ahead, is_mark, keyword_of, name_of, atom_of, lower_of, upper_of}
+use Rattle.leo_syntax.specs.Classes.{same_shape}
+use Rattle.leo_syntax.specs.Lexemes.{Lexeme, Ahead, is_mark, keyword_of, bracket_of, name_of, atom_of, lower_of, upper_of, quoted_of}
 use Rattle.leo_syntax.specs.Reading as read
 use Rattle.leo_syntax.specs.Reading.{Read, and_then, read_mark, read_said, read_guard, read_level, rest}
-use Rattle.leo_syntax.specs.Grammar.{Takes, Says, Passes, sees, class_at, byte_of, is_chain, continues, is_type_role, IsOperandType, type_atom, individual, truth, type_of_types, type_brackets, IsType, operand, function, IsVariable, variable, AreVariables, last_variable, next_variable, IsItem, atom, variable_item, symbol_item, negation_sign, connective_sign, brackets, AreArguments, none, more, binder_last, IsApplication, application, IsBinder, binder, IsNegation, negation, IsUnary, negated, bound, term, equation, IsSide, negated_side, bound_side, term_side, AreOperands, last, further, IsFormula, alone, chain, pair, IsTyping, typed_atom, typed_brackets, IsEnding, bare, IsHead, IsStatement, formula_statement, typing_statement}
+use Rattle.leo_syntax.specs.Grammar.{Takes, Says, Passes, sees, class_at, byte_of, is_chain, continues, is_type_role, IsOperandType, type_atom, individual, truth, type_of_types, type_brackets, IsType, operand, function, IsVariable, variable, AreVariables, last_variable, next_variable, IsItem, atom, variable_item, symbol_item, negation_sign, connective_sign, brackets, AreArguments, none, more, binder_last, IsApplication, application, IsBinder, binder, IsNegation, negation, IsUnary, negated, bound, term, equation, IsSide, negated_side, bound_side, term_side, AreOperands, last, further, IsFormula, alone, chain, pair, IsTyping, typed_atom, typed_brackets, bracket_at, is_closing, Annotates, matched, plain_token, opens, closes, IsEnding, bare, with_annotations, AreNames, last_name, next_name, IsSelection, whole, no_names, some_names, IsHead, IsStatement, formula_statement, typing_statement, include_statement}
 
 pub or_false : (b : Bool) → (b ≡ true) ⊎ (b ≡ false)
 or_false true = inl refl
@@ -301,10 +306,135 @@ unfolding read.typing
 typing_sound end zero ls = tt
 typing_sound end (suc left) ls = typing_by end left (read.typing end left) (typing_sound end left) ls (class_at ls) refl
 
+-- ---- annotations
+
+same_shape_is : (s due : Shape) → same_shape s due ≡ true → s ≡ due
+unfolding same_shape
+same_shape_is shape.Round shape.Round e = refl
+same_shape_is shape.Square shape.Square e = refl
+same_shape_is shape.Curly shape.Curly e = refl
+same_shape_is _ _ e = absurd cc
+
+module _ (end : ℕ) (l : Lexeme) (ls : Ahead) (known : (due : List Shape) → IfRead (read.annotated end due ls) (λ _ after. Annotates due ls after)) where
+  closes_by : (due : List Shape) (s : Shape) → bracket_of l ≡ bracket.Closes s → IfRead (read.closes_by due s end (λ others. read.annotated end others ls) (l ∷ ls)) (λ _ after. Annotates due (l ∷ ls) after)
+  unfolding bracket_at
+  closes_by [] shape.Round e = matched e
+  closes_by [] _ e = tt
+  closes_by (d ∷ others) s e = elim (or_false (same_shape s d)) [
+    | inl t ↦ rw t (then_same (read.annotated end others ls) (λ _ after. Annotates others ls after) (λ _ after. Annotates (d ∷ others) (l ∷ ls) after) (known others)
+        (λ _ after h. closes (record { token = l; ahead_is = refl; sort_is = e ∙ ap bracket.Closes (same_shape_is s d t) }) h))
+    | inr f ↦ rw f tt
+  ]
+
+  annotated_by : (due : List Shape) (b : Bracket) → bracket_of l ≡ b → IfRead (read.annotated_by b end (λ others. read.annotated end others ls) due (l ∷ ls)) (λ _ after. Annotates due (l ∷ ls) after)
+  annotated_by due (bracket.Opens s) e = then_same (read.annotated end (s ∷ due) ls) (λ _ after. Annotates (s ∷ due) ls after) (λ _ after. Annotates due (l ∷ ls) after) (known (s ∷ due)) (λ _ after h. opens (record { token = l; ahead_is = refl; sort_is = e }) h)
+  annotated_by due (bracket.Closes s) e = closes_by due s e
+  annotated_by due bracket.Plain e = then_same (read.annotated end due ls) (λ _ after. Annotates due ls after) (λ _ after. Annotates due (l ∷ ls) after) (known due) (λ _ after h. plain_token (record { token = l; ahead_is = refl; sort_is = e }) h)
+
+annotated_sound : (end : ℕ) (ls : Ahead) (due : List Shape) → IfRead (read.annotated end due ls) (λ _ after. Annotates due ls after)
+unfolding read.annotated
+annotated_sound end [] due = tt
+annotated_sound end (l ∷ ls) due = annotated_by end l ls (annotated_sound end ls) due (bracket_of l) refl
+
+annotation_if : (end : ℕ) (ls : Ahead) (t : Bool) → is_closing (bracket_at ls) ≡ t → IfRead (cond t (Err (read.syntax_at end ls)) (read.annotated end [] ls)) (λ _ after. (is_closing (bracket_at ls) ≡ false) × Annotates [] ls after)
+annotation_if end ls true e = tt
+annotation_if end ls false e = then_same (read.annotated end [] ls) (λ _ after. Annotates [] ls after) (λ _ after. (is_closing (bracket_at ls) ≡ false) × Annotates [] ls after) (annotated_sound end ls []) (λ _ after h. (e, h))
+
+annotation_sound : (end : ℕ) (ls : Ahead) → IfRead (read.annotation end ls) (λ _ after. (is_closing (bracket_at ls) ≡ false) × Annotates [] ls after)
+unfolding read.annotation
+annotation_sound end ls = annotation_if end ls (is_closing (bracket_at ls)) refl
+
+-- what comes behind annotations, if there are any
+abbrev Behind : Ahead → Ahead → Type 0
+Behind ls l1 = (l2 after : Ahead) → Passes CloseRound l1 l2 → Passes Dot l2 after → IsEnding ls after
+
+annotations_sound : (end : ℕ) (ls : Ahead) → IfRead (read.annotations end ls) (λ _ l1. Behind ls l1)
+unfolding read.annotations sees rest
+annotations_sound end [] = λ l2 after p q. bare p q
+annotations_sound end (l ∷ ls) = elim (or_false (is_mark Comma l)) [
+  | inl t ↦ rw t (then_same (read.annotation end ls) (λ _ after. (is_closing (bracket_at ls) ≡ false) × Annotates [] ls after) (λ _ l1. Behind (l ∷ ls) l1) (annotation_sound end ls)
+      (λ _ l1 h. λ l2 after p q. with_annotations (record { token = l; ahead_is = refl; is_that = t }) h.0 h.1 p q))
+  | inr f ↦ rw f (λ l2 after p q. bare p q)
+]
+
+ended_sound : (end : ℕ) (ls : Ahead) → IfRead (read.ended end ls) (λ _ after. (l1 : Ahead) × Passes CloseRound ls l1 × Passes Dot l1 after)
+unfolding read.ended
+ended_sound end ls = then_read (read_mark CloseRound end ls) _ (λ _ after. Passes CloseRound ls after) (λ _ after. (l1 : Ahead) × Passes CloseRound ls l1 × Passes Dot l1 after) (mark_sound CloseRound end ls) (λ _ l1 m.
+    then_same (read_mark Dot end l1) (λ _ after. Passes Dot l1 after) (λ _ after. (l1 : Ahead) × Passes CloseRound ls l1 × Passes Dot l1 after) (mark_sound Dot end l1) (λ _ after k. (l1, m, k)))
+
 ending_sound : (end : ℕ) (ls : Ahead) → IfRead (read.ending end ls) (λ _ after. IsEnding ls after)
 unfolding read.ending
-ending_sound end ls = then_read (read_mark CloseRound end ls) _ (λ _ after. Passes CloseRound ls after) (λ _ after. IsEnding ls after) (mark_sound CloseRound end ls) (λ _ l1 m.
-    then_same (read_mark Dot end l1) (λ _ after. Passes Dot l1 after) (λ _ after. IsEnding ls after) (mark_sound Dot end l1) (λ _ after k. bare m k))
+ending_sound end ls = then_read (read.annotations end ls) _ (λ _ l1. Behind ls l1) (λ _ after. IsEnding ls after) (annotations_sound end ls) (λ _ l1 h.
+    then_same (read.ended end l1) (λ _ after. (l2 : Ahead) × Passes CloseRound l1 l2 × Passes Dot l2 after) (λ _ after. IsEnding ls after) (ended_sound end l1) (λ _ after k. h k.0 after k.1 k.2))
+
+-- ---- includes
+
+-- what names come to behind another
+abbrev Further : Ahead → List (List ℕ) → Ahead → Type 0
+Further l1 others after = (ls : Ahead) (label : List ℕ) → Says name_of ls label l1 → AreNames ls (label ∷ others) after
+
+named_by : (end : ℕ) (l : Lexeme) (ls : Ahead) → IfRead (read.further_names end ls) (Further ls) → (o : Option (List ℕ)) → name_of l ≡ o
+    → IfRead (and_then (read.found o end (l ∷ ls)) (λ label _. and_then (read.further_names end ls) (λ others after. Ok (label ∷ others, after)))) (AreNames (l ∷ ls))
+unfolding rest
+named_by end l ls known (Some label) e = then_read (read.further_names end ls) _ (Further ls) (AreNames (l ∷ ls)) known (λ others after h. h (l ∷ ls) label (record { token = l; ahead_is = refl; said = e }))
+named_by end l ls known None e = tt
+
+further_by : (end : ℕ) (m : Lexeme) (ms : Ahead) → IfRead (read.names end ms) (AreNames ms) → IfRead (cond (is_mark Comma m) (read.names end ms) (Ok ([], m ∷ ms))) (Further (m ∷ ms))
+unfolding sees
+further_by end m ms known = elim (or_false (is_mark Comma m)) [
+  | inl t ↦ rw t (then_same (read.names end ms) (AreNames ms) (Further (m ∷ ms)) known (λ others after k. λ ls label h. next_name h (record { token = m; ahead_is = refl; is_that = t }) k))
+  | inr f ↦ rw f (λ ls label h. last_name h f)
+]
+
+further_nothing : Further [] [] []
+unfolding sees
+further_nothing = λ ls label h. last_name h refl
+
+mutual
+  unfolding read.names read.said_at
+
+  names_sound : (end : ℕ) (ls : Ahead) → IfRead (read.names end ls) (AreNames ls)
+  names_sound end [] = tt
+  names_sound end (l ∷ ls) = named_by end l ls (further_sound end ls) (name_of l) refl
+
+  further_sound : (end : ℕ) (ls : Ahead) → IfRead (read.further_names end ls) (Further ls)
+  further_sound end [] = further_nothing
+  further_sound end (m ∷ ms) = further_by end m ms (names_sound end ms)
+
+-- what is read in the square brackets of an include
+abbrev Selected : Ahead → List (List ℕ) → Ahead → Type 0
+Selected l2 found after = (ls l1 : Ahead) → Passes Comma ls l1 → Passes OpenSquare l1 l2 → IsSelection ls (Some found) after
+
+some_selected : (end : ℕ) (ls : Ahead) → IfRead (and_then (read.names end ls) (λ found l1. and_then (read_mark CloseSquare end l1) (λ _ after. Ok (found, after)))) (Selected ls)
+some_selected end ls = then_read (read.names end ls) _ (AreNames ls) (Selected ls) (names_sound end ls) (λ found l3 h.
+    then_read (read_mark CloseSquare end l3) _ (λ _ after. Passes CloseSquare l3 after) (Selected ls) (mark_sound CloseSquare end l3) (λ _ after k. λ l0 l1 p q. some_names p q h k))
+
+selected_sound : (end : ℕ) (ls : Ahead) → IfRead (read.selected end ls) (Selected ls)
+unfolding read.selected sees rest
+selected_sound end [] = some_selected end []
+selected_sound end (l ∷ ls) = elim (or_false (is_mark CloseSquare l)) [
+  | inl t ↦ rw t (λ l0 l1 p q. no_names p q (record { token = l; ahead_is = refl; is_that = t }))
+  | inr f ↦ rw f (some_selected end (l ∷ ls))
+]
+
+selection_sound : (end : ℕ) (ls : Ahead) → IfRead (read.selection end ls) (IsSelection ls)
+unfolding read.selection sees rest
+selection_sound end [] = whole refl
+selection_sound end (l ∷ ls) = elim (or_false (is_mark Comma l)) [
+  | inl t ↦ rw t (then_read (read_mark OpenSquare end ls) _ (λ _ after. Passes OpenSquare ls after) (IsSelection (l ∷ ls)) (mark_sound OpenSquare end ls) (λ _ l2 m.
+      then_read (read.selected end l2) _ (Selected l2) (IsSelection (l ∷ ls)) (selected_sound end l2) (λ found after h. h (l ∷ ls) ls (record { token = l; ahead_is = refl; is_that = t }) m)))
+  | inr f ↦ rw f (whole f)
+]
+
+included_sound : (end : ℕ) (word : Lexeme) (l1 : Ahead) → keyword_of word ≡ keyword.Include → IfRead (read.included end (byte_of (word ∷ l1)) l1) (IsStatement (word ∷ l1))
+unfolding read.included
+included_sound end word l1 e =
+    then_read (read_mark OpenRound end l1) _ (λ _ after. Passes OpenRound l1 after) (IsStatement (word ∷ l1)) (mark_sound OpenRound end l1) (λ _ l2 m2.
+    then_skip (read_guard guard.BehindBracket end l2) _ (IsStatement (word ∷ l1)) (
+    then_read (read_said quoted_of end l2) _ (λ file after. Says quoted_of l2 file after) (IsStatement (word ∷ l1)) (says_sound quoted_of end l2) (λ file l3 h3.
+    then_read (read.selection end l3) _ (IsSelection l3) (IsStatement (word ∷ l1)) (selection_sound end l3) (λ names l4 h4.
+    then_read (read.ended end l4) _ (λ _ after. (l5 : Ahead) × Passes CloseRound l4 l5 × Passes Dot l5 after) (IsStatement (word ∷ l1)) (ended_sound end l4) (λ _ after k.
+    include_statement (record { token = word; ahead_is = refl; word_is = e }) m2 h3 h4 k.1 k.2)))))
 
 stated_sound : (end byte : ℕ) (name role : List ℕ) (role_byte : ℕ) (ls l1 : Ahead) → IsHead ls byte name role role_byte l1 → IfRead (read.stated end byte name role role_byte l1) (IsStatement ls)
 unfolding read.stated read.typing_statement read.formula_statement
@@ -345,7 +475,8 @@ headed_sound end thf l1 e =
 statement_by : (end : ℕ) (l : Lexeme) (ls : Ahead) (k : Keyword) → keyword_of l ≡ k → IfRead (read.statement_by k end (l ∷ ls)) (IsStatement (l ∷ ls))
 unfolding rest
 statement_by end l ls keyword.Thf e = headed_sound end l ls e
-statement_by end l ls _ e = tt
+statement_by end l ls keyword.Include e = included_sound end l ls e
+statement_by end l ls keyword.Other e = tt
 
 pub statement_sound : (end : ℕ) (ls : Ahead) → IfRead (read.statement end ls) (IsStatement ls)
 unfolding read.statement read.keyword_at

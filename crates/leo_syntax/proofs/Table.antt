@@ -4,14 +4,12 @@ use Rattle.std.specs.Prelude.{Ok, Err, Option, Some, None, nat_le, codes, ◌||�
 use Rattle.std.specs.Str.{bytes_eq}
 use Rattle.std.proofs.lemmas.Bool.Decides.{nat_tests}
 use Rattle.leo_lex.specs.declared.mark.Mark.{Mark}
-use Rattle.leo_lex.specs.declared.mark.Mark.TheVariants.{OpenRound, CloseRound, OpenSquare, CloseSquare, Comma, Dot, Colon}
+use Rattle.leo_lex.specs.declared.mark.Mark.TheVariants.{CloseRound, OpenSquare, CloseSquare, Comma, Colon}
 use Rattle.leo_lex.specs.declared.token.Kind.{Kind}
 use Rattle.leo_lex.specs.declared.token.Kind.TheVariants as kind
 use Rattle.leo_syntax.specs.declared.classes.Class.{Class}
 use Rattle.leo_syntax.specs.declared.classes.Class.TheVariants as class
 use Rattle.leo_syntax.specs.declared.classes.Says.TheVariants as says
-use Rattle.leo_syntax.specs.declared.classes.Keyword.{Keyword}
-use Rattle.leo_syntax.specs.declared.classes.Keyword.TheVariants as keyword
 use Rattle.leo_syntax.specs.declared.classes.Wanted.TheVariants as wanted
 use Rattle.leo_syntax.specs.declared.classes.Guard.{Guard}
 use Rattle.leo_syntax.specs.declared.classes.Guard.TheVariants as guard
@@ -24,14 +22,13 @@ use Rattle.leo_syntax.specs.declared.tree.TypeTree.{TypeTree}
 use Rattle.leo_syntax.specs.declared.tree.Variable.{Variable}
 use Rattle.leo_syntax.specs.declared.tree.Tree.{Tree}
 use Rattle.leo_syntax.specs.declared.tree.Node.TheVariants as node
-use Rattle.leo_syntax.specs.declared.tree.Statement.{Statement}
 use Rattle.leo_syntax.specs.Classes.{class_by, dollar_class, mark_class}
-use Rattle.leo_syntax.specs.Lexemes.{Lexeme, Ahead, is_mark, class_of, keyword_of, said_by, name_of, atom_of, lower_of, upper_of, refusal, guarded}
+use Rattle.leo_syntax.specs.Lexemes.{Lexeme, Ahead, is_mark, class_of, said_by, name_of, atom_of, upper_of, refusal, guarded}
 use Rattle.leo_syntax.specs.Rules as rules
-use Rattle.leo_syntax.specs.Rules.{Part, statement, mark, reaches, guarding, name, role, typing, operand_type, arrows, unary, side, argument, inside, negated, arguments, equals, operators, operands, variable, variables, Move, take, skip, refuse, rule, within_levels, typed, begin_unary, moved, step, after_step, Outcome, refused, outcome}
+use Rattle.leo_syntax.specs.Rules.{Part, statement, mark, reaches, guarding, name, role, typing, operand_type, arrows, unary, side, argument, inside, negated, arguments, equals, operators, operands, variable, variables, ending, annotation, annotated, file, selection, selected, names, Move, take, skip, refuse, rule, within_levels, typed, begin_unary, moved, step, after_step, Outcome, refused, outcome}
 use Rattle.leo_syntax.specs.Reading as read
 use Rattle.leo_syntax.specs.Reading.{Read, and_then, read_mark, read_said, read_guard, rest}
-use Rattle.leo_syntax.specs.Grammar.{sees, class_at, byte_of, is_chain, continues, is_type_role, AreVariables, last_variable, next_variable, at_byte}
+use Rattle.leo_syntax.specs.Grammar.{sees, class_at, byte_of, is_chain, continues, AreVariables, last_variable, next_variable, at_byte}
 use Rattle.leo_syntax.proofs.Sound.{or_false, IfRead, then_read, then_same, then_skip, variables_sound, close_is}
 
 -- what becomes of a text from where a reader stops
@@ -76,15 +73,15 @@ mark_table m end [] parts = refl
 mark_table m end (l ∷ ls) parts = mark_by m end l ls parts (is_mark m l) refl
 
 -- how a move goes on
-abbrev after_move : ℕ → Move → Lexeme → Ahead → List Part → Outcome
+abbrev pub after_move : ℕ → Move → Lexeme → Ahead → List Part → Outcome
 after_move end move l ls parts = after_step (moved move parts (step parts l)) (outcome end ls)
 
-said_after : (end : ℕ) (l : Lexeme) (ls : Ahead) (taken parts : List Part) (o : Option (List ℕ)) → after_move end (rules.if_some o taken (refuse (refusal wanted.Other l))) l ls parts ≡ ends end (read.found o end (l ∷ ls)) (taken ++ parts)
+pub said_after : (end : ℕ) (l : Lexeme) (ls : Ahead) (taken parts : List Part) (o : Option (List ℕ)) → after_move end (rules.if_some o taken (refuse (refusal wanted.Other l))) l ls parts ≡ ends end (read.found o end (l ∷ ls)) (taken ++ parts)
 unfolding rest read.refusal_at
 said_after end l ls taken parts (Some a) = refl
 said_after end l ls taken parts None = refl
 
-name_table : (end : ℕ) (ls : Ahead) (parts : List Part) → outcome end ls (name ∷ parts) ≡ ends end (read_said name_of end ls) parts
+pub name_table : (end : ℕ) (ls : Ahead) (parts : List Part) → outcome end ls (name ∷ parts) ≡ ends end (read_said name_of end ls) parts
 unfolding outcome rule read.said_at read.refusal_at
 name_table end [] parts = refl
 name_table end (l ∷ ls) parts = said_after end l ls [] parts (name_of l)
@@ -94,19 +91,19 @@ unfolding outcome
 guard_by end l ls f parts others (Some form) h = refl
 guard_by end l ls f parts others None h = h
 
-guard_table : {A : Type 0} (g : Guard) (end : ℕ) (ls : Ahead) (f : Read A) (parts others : List Part) → outcome end ls parts ≡ ends end f others → outcome end ls (guarding g ∷ parts) ≡ ends end (and_then (read_guard g end ls) (λ _ _. f)) others
+pub guard_table : {A : Type 0} (g : Guard) (end : ℕ) (ls : Ahead) (f : Read A) (parts others : List Part) → outcome end ls parts ≡ ends end f others → outcome end ls (guarding g ∷ parts) ≡ ends end (and_then (read_guard g end ls) (λ _ _. f)) others
 unfolding outcome rule read.read_guard
 guard_table g end [] f parts others h = h
 guard_table g end (l ∷ ls) f parts others h = guard_by end l ls f parts others (guarded g l) h
 
-close_table : {A : Type 0} (end : ℕ) (r : Read A) (parts : List Part) → ends end r (mark CloseRound ∷ parts) ≡ ends end (read.closed end r) parts
+pub close_table : {A : Type 0} (end : ℕ) (r : Read A) (parts : List Part) → ends end r (mark CloseRound ∷ parts) ≡ ends end (read.closed end r) parts
 close_table end r parts = compose end r _ (mark CloseRound ∷ parts) parts (λ a ls. mark_table CloseRound end ls parts ∙ keep end (read_mark CloseRound end ls) (λ _. a) parts)
 
-within : (level left : ℕ) (l : Lexeme) (move : Move) → level + suc left ≡ 501 → within_levels level l move ≡ move
+pub within : (level left : ℕ) (l : Lexeme) (move : Move) → level + suc left ≡ 501 → within_levels level l move ≡ move
 unfolding within_levels
 within level left l move h = let fits : nat_le level 500 ≡ true = grind (arith, nat_tests) in rw fits refl
 
-outside : (level : ℕ) (l : Lexeme) (move : Move) → 501 ≤ level → within_levels level l move ≡ refuse (Deep l.byte)
+pub outside : (level : ℕ) (l : Lexeme) (move : Move) → 501 ≤ level → within_levels level l move ≡ refuse (Deep l.byte)
 unfolding within_levels
 outside level l move h = let passes : nat_le level 500 ≡ false = grind (arith, nat_tests) in rw passes refl
 
@@ -163,7 +160,7 @@ unfolding outcome rule read.deep_at
 deep_type end level h [] parts = refl
 deep_type end level h (l ∷ ls) parts = rw (outside level l _ h) refl
 
-reached : (end level left : ℕ) → level + suc left ≡ 501 → (ls : Ahead) (parts : List Part) → outcome end ls (reaches level ∷ parts) ≡ outcome end ls parts
+pub reached : (end level left : ℕ) → level + suc left ≡ 501 → (ls : Ahead) (parts : List Part) → outcome end ls (reaches level ∷ parts) ≡ outcome end ls parts
 unfolding outcome rule
 reached end level left h [] parts = refl
 reached end level left h (l ∷ ls) parts = rw (within level left l _ h) refl
@@ -618,111 +615,3 @@ laws end (suc left) = laws_suc end left (laws end left)
 -- a formula at level 0
 pub formula_table : (end : ℕ) (ls : Ahead) (parts : List Part) → outcome end ls (unary 0 ∷ operators 0 ∷ parts) ≡ ends end (read.formula end 501 ls) parts
 formula_table end ls parts = (laws end 501).formula_law 0 refl ls parts
-
--- ---- statements
-
-abbrev is_atom : Class → Bool
-is_atom class.Atom = true
-is_atom _ = false
-
-atom_unsaid : (k : Kind) (text : List ℕ) → is_atom (class_by k text) ≡ false → said_by says.Atom k text ≡ None
-unfolding class_by said_by
-atom_unsaid kind.Lower text e = absurd cc
-atom_unsaid kind.Quoted text e = absurd cc
-atom_unsaid _ text e = refl
-
-abbrev TypingLaw : ℕ → ℕ → Type 0
-TypingLaw end left = (level : ℕ) → level + left ≡ 501 → (ls : Ahead) (parts : List Part) → outcome end ls (typing level ∷ parts) ≡ ends end (read.typing end left ls) parts
-
-deep_typing : (end level : ℕ) → 501 ≤ level → (ls : Ahead) (parts : List Part) → outcome end ls (typing level ∷ parts) ≡ refused (read.deep_at end ls)
-unfolding outcome rule read.deep_at
-deep_typing end level h [] parts = refl
-deep_typing end level h (l ∷ ls) parts = rw (outside level l _ h) refl
-
-opened_typing_zero : (end level : ℕ) → level + 0 ≡ 501 → (ls : Ahead) (parts : List Part) → outcome end ls (reaches level ∷ guarding guard.BehindBracket ∷ typing level ∷ mark CloseRound ∷ parts) ≡ ends end (read.opened end 0 (read.typing end 0) ls) parts
-unfolding outcome rule read.deep_at
-opened_typing_zero end level h [] parts = refl
-opened_typing_zero end level h (l ∷ ls) parts = rw (outside level l _ (omega (arith, h))) refl
-
-opened_typing : (end left : ℕ) → TypingLaw end left → (level : ℕ) → level + left ≡ 501 → (ls : Ahead) (parts : List Part) → outcome end ls (reaches level ∷ guarding guard.BehindBracket ∷ typing level ∷ mark CloseRound ∷ parts) ≡ ends end (read.opened end left (read.typing end left) ls) parts
-opened_typing end zero law level h ls parts = opened_typing_zero end level h ls parts
-opened_typing end (suc left) law level h ls parts =
-    reached end level left h ls (guarding guard.BehindBracket ∷ typing level ∷ mark CloseRound ∷ parts)
-    ∙ guard_table guard.BehindBracket end ls (read.closed end (read.typing end (suc left) ls)) (typing level ∷ mark CloseRound ∷ parts) parts
-    (law level h ls (mark CloseRound ∷ parts) ∙ close_table end (read.typing end (suc left) ls) parts)
-
-typed_by : (end left level : ℕ) → level + left ≡ 501 → (l : Lexeme) (ls : Ahead) (parts : List Part) → class_of l ≡ class.Atom → outcome end ls (mark Colon ∷ typed level parts) ≡ ends end (read.typed end left (l ∷ ls)) parts
-unfolding read.typed read.said_at rest
-typed_by end left level h l ls parts e =
-    let a = atom_said l.kind l.text e in
-    rw a.1 (mark_table Colon end ls (typed level parts)
-    ∙ compose end (read_mark Colon end ls) _ (typed level parts) parts (λ _ l2. type_table end left level h l2 parts ∙ keep end (read.ty end left l2) _ parts))
-
-no_atom : (end left : ℕ) (l : Lexeme) (ls : Ahead) → is_atom (class_of l) ≡ false → read.typed end left (l ∷ ls) ≡ Err (refusal wanted.Other l)
-unfolding read.typed read.said_at read.refusal_at
-no_atom end left l ls e = rw (atom_unsaid l.kind l.text e) refl
-
-module _ (end left : ℕ) (law : TypingLaw end left) where
-  typing_by : (level : ℕ) → level + suc left ≡ 501 → (l : Lexeme) (ls : Ahead) (parts : List Part) (c : Class) → class_of l ≡ c → after_move end (rules.typing_by c level l) l ls parts ≡ ends end (read.typing_by c end left (read.typing end left) (l ∷ ls)) parts
-  unfolding rest
-  typing_by level h l ls parts class.Open e = opened_typing end left law (level + 1) (omega (arith, h)) ls parts
-  typing_by level h l ls parts class.Atom e = typed_by end (suc left) level h l ls parts e
-  typing_by level h l ls parts _ e = let none : is_atom (class_of l) ≡ false = rw e refl in rw (no_atom end (suc left) l ls none) refl
-
-  typing_step : TypingLaw end (suc left)
-  unfolding outcome rule read.typing class_at read.typed read.said_at read.refusal_at
-  typing_step level h [] parts = refl
-  typing_step level h (l ∷ ls) parts = rw (within level left l _ h) (typing_by level h l ls parts (class_of l) refl)
-
-typing_zero : (end : ℕ) → TypingLaw end 0
-unfolding read.typing
-typing_zero end level h ls parts = deep_typing end level (omega (arith, h)) ls parts
-
-pub typing_table : (end left : ℕ) → TypingLaw end left
-typing_table end zero = typing_zero end
-typing_table end (suc left) = typing_step end left (typing_table end left)
-
-ending_table : (end : ℕ) (ls : Ahead) (parts : List Part) → outcome end ls (mark CloseRound ∷ mark Dot ∷ parts) ≡ ends end (read.ending end ls) parts
-unfolding read.ending
-ending_table end ls parts = mark_table CloseRound end ls (mark Dot ∷ parts) ∙ compose end (read_mark CloseRound end ls) _ (mark Dot ∷ parts) parts (λ _ l1. mark_table Dot end l1 parts)
-
-body_table : (end byte : ℕ) (label word : List ℕ) (word_byte : ℕ) (ls : Ahead) (parts : List Part) → outcome end ls (rules.body_of word ++ parts) ≡ ends end (read.stated end byte label word word_byte ls) parts
-unfolding read.stated read.typing_statement read.formula_statement
-body_table end byte label word word_byte ls parts = elim (or_false (is_type_role word)) [
-  | inl t ↦ rw t (typing_table end 501 0 refl ls (mark CloseRound ∷ mark Dot ∷ parts)
-      ∙ compose end (read.typing end 501 ls) _ (mark CloseRound ∷ mark Dot ∷ parts) parts (λ found l1. ending_table end l1 parts ∙ keep end (read.ending end l1) _ parts))
-  | inr f ↦ rw f (formula_table end ls (mark CloseRound ∷ mark Dot ∷ parts)
-      ∙ compose end (read.formula end 501 ls) _ (mark CloseRound ∷ mark Dot ∷ parts) parts (λ tree l1. ending_table end l1 parts ∙ keep end (read.ending end l1) _ parts))
-]
-
-role_by : (end : ℕ) (l : Lexeme) (ls : Ahead) (parts : List Part) (f : List ℕ → Ahead → Read Statement) → ((word : List ℕ) (ls : Ahead) → outcome end ls (mark Comma ∷ (rules.body_of word ++ parts)) ≡ ends end (f word ls) parts)
-    → (o : Option (List ℕ)) → after_move end (rules.role_by o l) l ls parts ≡ ends end (and_then (read.found o end (l ∷ ls)) f) parts
-unfolding rest read.refusal_at
-role_by end l ls parts f h (Some word) = h word ls
-role_by end l ls parts f h None = refl
-
-role_table : (end : ℕ) (ls : Ahead) (parts : List Part) (f : List ℕ → Ahead → Read Statement) → ((word : List ℕ) (ls : Ahead) → outcome end ls (mark Comma ∷ (rules.body_of word ++ parts)) ≡ ends end (f word ls) parts)
-    → outcome end ls (role ∷ parts) ≡ ends end (and_then (read_said lower_of end ls) f) parts
-unfolding outcome rule read.said_at read.refusal_at
-role_table end [] parts f h = refl
-role_table end (l ∷ ls) parts f h = role_by end l ls parts f h (lower_of l)
-
-headed_table : (end byte : ℕ) (ls : Ahead) (parts : List Part) → outcome end ls (mark OpenRound ∷ guarding guard.BehindBracket ∷ name ∷ mark Comma ∷ role ∷ parts) ≡ ends end (read.headed end byte ls) parts
-unfolding read.headed
-headed_table end byte ls parts =
-    mark_table OpenRound end ls (guarding guard.BehindBracket ∷ name ∷ mark Comma ∷ role ∷ parts)
-    ∙ compose end (read_mark OpenRound end ls) _ (guarding guard.BehindBracket ∷ name ∷ mark Comma ∷ role ∷ parts) parts (λ _ l1.
-    guard_table guard.BehindBracket end l1 _ (name ∷ mark Comma ∷ role ∷ parts) parts (name_table end l1 (mark Comma ∷ role ∷ parts)
-    ∙ compose end (read_said name_of end l1) _ (mark Comma ∷ role ∷ parts) parts (λ found l2. mark_table Comma end l2 (role ∷ parts)
-    ∙ compose end (read_mark Comma end l2) _ (role ∷ parts) parts (λ _ l3. role_table end l3 parts _ (λ word l4. mark_table Comma end l4 (rules.body_of word ++ parts)
-    ∙ compose end (read_mark Comma end l4) _ (rules.body_of word ++ parts) parts (λ _ l5. body_table end byte found word (byte_of l3) l5 parts))))))
-
-statement_by : (end : ℕ) (l : Lexeme) (ls : Ahead) (parts : List Part) (k : Keyword) → after_move end (rules.statement_by k l) l ls parts ≡ ends end (read.statement_by k end (l ∷ ls)) (statement ∷ parts)
-unfolding rest read.refusal_at
-statement_by end l ls parts keyword.Thf = headed_table end (byte_of (l ∷ ls)) ls (statement ∷ parts)
-statement_by end l ls parts _ = refl
-
--- a statement, where something is left
-pub statement_table : (end : ℕ) (l : Lexeme) (ls : Ahead) → outcome end (l ∷ ls) (statement ∷ []) ≡ ends end (read.statement end (l ∷ ls)) (statement ∷ [])
-unfolding outcome rule read.statement read.keyword_at
-statement_table end l ls = statement_by end l ls [] (keyword_of l)

@@ -1,5 +1,5 @@
 -- What a token is to the grammar, and which unsupported form a token belongs to where it is refused.
-use Rattle.std.specs.Prelude.{ℕ, Bool, List, codes, Option, Some, None, if◌then◌else◌, ◌||◌}
+use Rattle.std.specs.Prelude.{ℕ, Bool, true, false, List, codes, Option, Some, None, if◌then◌else◌, ◌||◌}
 use Rattle.std.specs.Str.{bytes_eq}
 use Rattle.leo_lex.specs.declared.mark.Mark.{Mark}
 use Rattle.leo_lex.specs.declared.mark.Mark.TheVariants as mark
@@ -14,6 +14,10 @@ use Rattle.leo_syntax.specs.declared.classes.Wanted.{Wanted}
 use Rattle.leo_syntax.specs.declared.classes.Wanted.TheVariants as wanted
 use Rattle.leo_syntax.specs.declared.classes.Guard.{Guard}
 use Rattle.leo_syntax.specs.declared.classes.Guard.TheVariants as guard
+use Rattle.leo_syntax.specs.declared.classes.Shape.{Shape}
+use Rattle.leo_syntax.specs.declared.classes.Shape.TheVariants as shape
+use Rattle.leo_syntax.specs.declared.classes.Bracket.{Bracket}
+use Rattle.leo_syntax.specs.declared.classes.Bracket.TheVariants as bracket
 use Rattle.leo_syntax.specs.declared.tree.Binder.TheVariants as binder
 use Rattle.leo_syntax.specs.declared.tree.Connective.TheVariants as connective
 use Rattle.leo_syntax.specs.declared.tree.Sign.TheVariants as sign
@@ -70,6 +74,27 @@ word_keyword text =
 unfoldable pub keyword_by : Kind → List ℕ → Keyword
 keyword_by kind.Lower text = word_keyword text
 keyword_by _ text = keyword.Other
+
+-- ---- brackets
+
+unfoldable pub mark_bracket : Mark → Bracket
+mark_bracket mark.OpenRound = bracket.Opens shape.Round
+mark_bracket mark.OpenSquare = bracket.Opens shape.Square
+mark_bracket mark.OpenCurly = bracket.Opens shape.Curly
+mark_bracket mark.CloseRound = bracket.Closes shape.Round
+mark_bracket mark.CloseSquare = bracket.Closes shape.Square
+mark_bracket mark.CloseCurly = bracket.Closes shape.Curly
+mark_bracket _ = bracket.Plain
+
+unfoldable pub bracket_by : Kind → Bracket
+bracket_by (kind.Mark m) = mark_bracket m
+bracket_by _ = bracket.Plain
+
+unfoldable pub same_shape : Shape → Shape → Bool
+same_shape shape.Round shape.Round = true
+same_shape shape.Square shape.Square = true
+same_shape shape.Curly shape.Curly = true
+same_shape _ _ = false
 
 -- ---- unsupported forms
 

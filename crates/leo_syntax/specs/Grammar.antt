@@ -1,6 +1,6 @@
 -- The grammar, rule by rule: which tokens at the front of others are read as which tree.
 -- Where a part may go on, it does: a rule that ends a part wants another token behind it.
-use Rattle.std.specs.Prelude.{◌≡◌, ℕ, Bool, true, false, List, [], ◌∷◌, ◌++◌, codes, Option, Some}
+use Rattle.std.specs.Prelude.{◌≡◌, ℕ, Bool, true, false, List, [], ◌∷◌, ◌++◌, codes, Option, Some, None}
 use Rattle.std.specs.Str.{bytes_eq}
 use Rattle.leo_lex.specs.declared.mark.Mark.{Mark}
 use Rattle.leo_lex.specs.declared.mark.Mark.TheVariants.{OpenRound, CloseRound, OpenSquare, CloseSquare, Comma, Dot, Colon}
@@ -8,7 +8,12 @@ use Rattle.leo_syntax.specs.declared.classes.Class.{Class}
 use Rattle.leo_syntax.specs.declared.classes.Class.TheVariants as class
 use Rattle.leo_syntax.specs.declared.classes.Symbol.{Symbol}
 use Rattle.leo_syntax.specs.declared.classes.Symbol.TheVariants as symbol
-use Rattle.leo_syntax.specs.declared.classes.Keyword.TheVariants.{Thf}
+use Rattle.leo_syntax.specs.declared.classes.Keyword.{Keyword}
+use Rattle.leo_syntax.specs.declared.classes.Keyword.TheVariants as keyword
+use Rattle.leo_syntax.specs.declared.classes.Shape.{Shape}
+use Rattle.leo_syntax.specs.declared.classes.Shape.TheVariants.{Round}
+use Rattle.leo_syntax.specs.declared.classes.Bracket.{Bracket}
+use Rattle.leo_syntax.specs.declared.classes.Bracket.TheVariants as bracket
 use Rattle.leo_syntax.specs.declared.tree.Binder.{Binder}
 use Rattle.leo_syntax.specs.declared.tree.Connective.{Connective}
 use Rattle.leo_syntax.specs.declared.tree.Connective.TheVariants.{Or, And}
@@ -22,8 +27,8 @@ use Rattle.leo_syntax.specs.declared.tree.Tree.{Tree}
 use Rattle.leo_syntax.specs.declared.tree.Node.{Node}
 use Rattle.leo_syntax.specs.declared.tree.Node.TheVariants as node
 use Rattle.leo_syntax.specs.declared.tree.Statement.{Statement}
-use Rattle.leo_syntax.specs.declared.tree.Statement.TheVariants.{Formula, Typing}
-use Rattle.leo_syntax.specs.Lexemes.{Lexeme, Ahead, is_mark, class_of, keyword_of, name_of, atom_of, lower_of, upper_of}
+use Rattle.leo_syntax.specs.declared.tree.Statement.TheVariants.{Formula, Typing, Include}
+use Rattle.leo_syntax.specs.Lexemes.{Lexeme, Ahead, is_mark, class_of, keyword_of, bracket_of, name_of, atom_of, lower_of, upper_of, quoted_of}
 
 -- ---- the next token
 
@@ -32,6 +37,12 @@ pub record Takes (class : Class) (ls : Ahead) (after : Ahead) : Type 0 where
   pub token : Lexeme
   pub ahead_is : ls ≡ token ∷ after
   pub class_is : class_of token ≡ class
+
+-- the next token is that word
+pub record Begins (word : Keyword) (ls : Ahead) (after : Ahead) : Type 0 where
+  pub token : Lexeme
+  pub ahead_is : ls ≡ token ∷ after
+  pub word_is : keyword_of token ≡ word
 
 -- the next token says that
 pub record Says {A : Type 0} (says : Lexeme → Option A) (ls : Ahead) (a : A) (after : Ahead) : Type 0 where
@@ -45,6 +56,12 @@ pub record Passes (mark : Mark) (ls : Ahead) (after : Ahead) : Type 0 where
   pub ahead_is : ls ≡ token ∷ after
   pub is_that : is_mark mark token ≡ true
 
+-- the next token is of that sort for annotations
+pub record Turns (sort : Bracket) (ls : Ahead) (after : Ahead) : Type 0 where
+  pub token : Lexeme
+  pub ahead_is : ls ≡ token ∷ after
+  pub sort_is : bracket_of token ≡ sort
+
 unfoldable pub sees : Mark → Ahead → Bool
 sees m [] = false
 sees m (l ∷ ls) = is_mark m l
@@ -57,6 +74,14 @@ byte_of (l ∷ ls) = l.byte
 unfoldable pub class_at : Ahead → Class
 class_at [] = class.Other
 class_at (l ∷ ls) = class_of l
+
+unfoldable pub bracket_at : Ahead → Bracket
+bracket_at [] = bracket.Plain
+bracket_at (l ∷ ls) = bracket_of l
+
+abbrev pub is_closing : Bracket → Bool
+is_closing (bracket.Closes s) = true
+is_closing _ = false
 
 abbrev pub is_arrow : Class → Bool
 is_arrow class.Arrow = true
@@ -204,9 +229,29 @@ pub data IsTyping : Ahead → List ℕ → ℕ → TypeTree → Ahead → Type 0
   typed_atom : {ls l1 l2 after : Ahead} {name : List ℕ} {ty : TypeTree} → Says atom_of ls name l1 → Passes Colon l1 l2 → IsType l2 ty after → IsTyping ls name (byte_of ls) ty after
   typed_brackets : {ls l1 l2 after : Ahead} {name : List ℕ} {byte : ℕ} {ty : TypeTree} → Takes class.Open ls l1 → IsTyping l1 name byte ty l2 → Passes CloseRound l2 after → IsTyping ls name byte ty after
 
--- the end of a statement
+-- Any tokens in which brackets match, up to a `)` that closes none of them. The list has the shapes
+-- of the brackets that are open before them, the last first.
+pub data Annotates : List Shape → Ahead → Ahead → Type 0 where
+  matched : {ls : Ahead} → bracket_at ls ≡ bracket.Closes Round → Annotates [] ls ls
+  plain_token : {due : List Shape} {ls l1 after : Ahead} → Turns bracket.Plain ls l1 → Annotates due l1 after → Annotates due ls after
+  opens : {due : List Shape} {s : Shape} {ls l1 after : Ahead} → Turns (bracket.Opens s) ls l1 → Annotates (s ∷ due) l1 after → Annotates due ls after
+  closes : {due : List Shape} {s : Shape} {ls l1 after : Ahead} → Turns (bracket.Closes s) ls l1 → Annotates due l1 after → Annotates (s ∷ due) ls after
+
+-- what stands behind a body
 pub data IsEnding : Ahead → Ahead → Type 0 where
   bare : {ls l1 after : Ahead} → Passes CloseRound ls l1 → Passes Dot l1 after → IsEnding ls after
+  -- annotations are one token at least
+  with_annotations : {ls l1 l2 l3 after : Ahead} → Passes Comma ls l1 → is_closing (bracket_at l1) ≡ false → Annotates [] l1 l2 → Passes CloseRound l2 l3 → Passes Dot l3 after → IsEnding ls after
+
+pub data AreNames : Ahead → List (List ℕ) → Ahead → Type 0 where
+  last_name : {ls after : Ahead} {name : List ℕ} → Says name_of ls name after → sees Comma after ≡ false → AreNames ls (name ∷ []) after
+  next_name : {ls l1 l2 after : Ahead} {name : List ℕ} {names : List (List ℕ)} → Says name_of ls name l1 → Passes Comma l1 l2 → AreNames l2 names after → AreNames ls (name ∷ names) after
+
+-- which statements an include is for: all, or those of some names
+pub data IsSelection : Ahead → Option (List (List ℕ)) → Ahead → Type 0 where
+  whole : {ls : Ahead} → sees Comma ls ≡ false → IsSelection ls None ls
+  no_names : {ls l1 l2 after : Ahead} → Passes Comma ls l1 → Passes OpenSquare l1 l2 → Passes CloseSquare l2 after → IsSelection ls (Some []) after
+  some_names : {ls l1 l2 l3 after : Ahead} {names : List (List ℕ)} → Passes Comma ls l1 → Passes OpenSquare l1 l2 → AreNames l2 names l3 → Passes CloseSquare l3 after → IsSelection ls (Some names) after
 
 -- the role of typings
 abbrev pub is_type_role : List ℕ → Bool
@@ -221,7 +266,7 @@ pub record IsHead (ls : Ahead) (byte : ℕ) (name role : List ℕ) (role_byte : 
   pub l5 : Ahead
   pub thf : Lexeme
   pub takes_thf : ls ≡ thf ∷ l1
-  pub is_thf : keyword_of thf ≡ Thf
+  pub is_thf : keyword_of thf ≡ keyword.Thf
   pub byte_is : byte ≡ byte_of ls
   pub takes_open : Passes OpenRound l1 l2
   pub says_name : Says name_of l2 name l3
@@ -235,6 +280,8 @@ pub data IsStatement : Ahead → Statement → Ahead → Type 0 where
       → IsFormula l1 tree l2 → IsEnding l2 after → IsStatement ls (Formula byte name role role_byte tree) after
   typing_statement : {ls l1 l2 after : Ahead} {byte role_byte atom_byte : ℕ} {name role atom : List ℕ} {ty : TypeTree} → IsHead ls byte name role role_byte l1 → is_type_role role ≡ true
       → IsTyping l1 atom atom_byte ty l2 → IsEnding l2 after → IsStatement ls (Typing byte name atom atom_byte ty) after
+  include_statement : {ls l1 l2 l3 l4 l5 after : Ahead} {file : List ℕ} {names : Option (List (List ℕ))} → Begins keyword.Include ls l1 → Passes OpenRound l1 l2
+      → Says quoted_of l2 file l3 → IsSelection l3 names l4 → Passes CloseRound l4 l5 → Passes Dot l5 after → IsStatement ls (Include (byte_of ls) file (byte_of l2) names) after
 
 -- the statements of a whole file
 pub data IsFile : Ahead → List Statement → Type 0 where

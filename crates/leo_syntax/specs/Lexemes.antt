@@ -12,12 +12,13 @@ use Rattle.leo_syntax.specs.declared.classes.Class.{Class}
 use Rattle.leo_syntax.specs.declared.classes.Keyword.{Keyword}
 use Rattle.leo_syntax.specs.declared.classes.Wanted.{Wanted}
 use Rattle.leo_syntax.specs.declared.classes.Guard.{Guard}
+use Rattle.leo_syntax.specs.declared.classes.Bracket.{Bracket}
 use Rattle.leo_syntax.specs.declared.classes.Says.{Says}
 use Rattle.leo_syntax.specs.declared.classes.Says.TheVariants as says
 use Rattle.leo_syntax.specs.declared.refusal.Form.{Form}
 use Rattle.leo_syntax.specs.declared.refusal.ReadRefusal.{ReadRefusal}
 use Rattle.leo_syntax.specs.declared.refusal.ReadRefusal.TheVariants.{Syntax, Unsupported}
-use Rattle.leo_syntax.specs.Classes.{class_by, keyword_by, form_by, guard_form}
+use Rattle.leo_syntax.specs.Classes.{class_by, keyword_by, bracket_by, form_by, guard_form}
 
 pub record Lexeme : Type 0 where
   pub kind : Kind
@@ -52,6 +53,9 @@ class_of l = class_by l.kind l.text
 
 abbrev pub keyword_of : Lexeme → Keyword
 keyword_of l = keyword_by l.kind l.text
+
+abbrev pub bracket_of : Lexeme → Bracket
+bracket_of l = bracket_by l.kind
 
 -- ---- what a token says
 

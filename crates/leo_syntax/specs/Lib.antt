@@ -6,3 +6,4 @@ pub mod Grammar
 pub mod Prefix
 pub mod Reading
 pub mod Source
+pub mod Texts

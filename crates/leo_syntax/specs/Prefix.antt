@@ -1,8 +1,9 @@
 -- The front of a text, and how it may go on.
 use Rattle.std.specs.Prelude.{◌≡◌, ◌≤◌, List, [], ◌∷◌, ◌++◌}
 use Rattle.leo_syntax.specs.declared.refusal.ReadRefusal.{ReadRefusal}
+use Rattle.leo_syntax.specs.declared.refusal.ReadRefusal.TheVariants.{Deep}
 use Rattle.leo_syntax.specs.Lexemes.{Lexeme, Ahead}
-use Rattle.leo_syntax.specs.Rules.{Part, statement, reaches, typing, operand_type, unary, side, argument, inside, variable, variables, max_level, accepted, outcome, Step, goes_on, stops, step}
+use Rattle.leo_syntax.specs.Rules.{Part, statement, reaches, typing, operand_type, unary, side, argument, inside, variable, variables, max_level, accepted, refused, Outcome, outcome, Step, goes_on, stops, step}
 
 -- what is looked for after these tokens, or why the first of them that is refused is
 abbrev pub then_steps : Step → (List Part → Step) → Step
@@ -15,6 +16,12 @@ steps (l ∷ ls) parts = then_steps (step parts l) (steps ls)
 
 abbrev pub file_steps : Ahead → Step
 file_steps ls = steps ls (statement ∷ [])
+
+-- each token is taken, or one stands beyond the last level
+abbrev pub IsTaken : Outcome → Type 0
+IsTaken accepted = Unit {0}
+IsTaken (refused (Deep byte)) = Unit {0}
+IsTaken _ = ⊥
 
 -- some file begins with these tokens
 abbrev pub GoesOn : Ahead → Type 0

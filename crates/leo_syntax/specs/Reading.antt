@@ -9,6 +9,10 @@ use Rattle.leo_syntax.specs.declared.classes.Keyword.{Keyword}
 use Rattle.leo_syntax.specs.declared.classes.Keyword.TheVariants as keyword
 use Rattle.leo_syntax.specs.declared.classes.Wanted.{Wanted}
 use Rattle.leo_syntax.specs.declared.classes.Wanted.TheVariants as wanted
+use Rattle.leo_syntax.specs.declared.classes.Shape.{Shape}
+use Rattle.leo_syntax.specs.declared.classes.Shape.TheVariants.{Round}
+use Rattle.leo_syntax.specs.declared.classes.Bracket.{Bracket}
+use Rattle.leo_syntax.specs.declared.classes.Bracket.TheVariants as bracket
 use Rattle.leo_syntax.specs.declared.classes.Guard.{Guard}
 use Rattle.leo_syntax.specs.declared.classes.Guard.TheVariants as guard
 use Rattle.leo_syntax.specs.declared.refusal.Form.{Form}
@@ -23,10 +27,11 @@ use Rattle.leo_syntax.specs.declared.tree.Variable.{Variable}
 use Rattle.leo_syntax.specs.declared.tree.Tree.{Tree}
 use Rattle.leo_syntax.specs.declared.tree.Node.TheVariants as node
 use Rattle.leo_syntax.specs.declared.tree.Statement.{Statement}
-use Rattle.leo_syntax.specs.declared.tree.Statement.TheVariants.{Formula, Typing}
+use Rattle.leo_syntax.specs.declared.tree.Statement.TheVariants.{Formula, Typing, Include}
 use Rattle.leo_syntax.specs.declared.typed.Typed.{Typed}
-use Rattle.leo_syntax.specs.Lexemes.{Lexeme, Ahead, keyword_of, name_of, atom_of, lower_of, upper_of, refusal, guarded}
-use Rattle.leo_syntax.specs.Grammar.{sees, class_at, byte_of, is_chain, continues, type_at, arrow, at_byte, applied, symbol_node}
+use Rattle.leo_syntax.specs.Classes.{same_shape}
+use Rattle.leo_syntax.specs.Lexemes.{Lexeme, Ahead, is_mark, keyword_of, bracket_of, name_of, atom_of, lower_of, upper_of, quoted_of, refusal, guarded}
+use Rattle.leo_syntax.specs.Grammar.{sees, class_at, bracket_at, is_closing, byte_of, is_chain, continues, type_at, arrow, at_byte, applied, symbol_node}
 
 -- ---- the next token
 
@@ -53,6 +58,10 @@ equality_at end (l ∷ ls) = Unsupported l.byte Equality
 unfoldable pub deep_at : ℕ → Ahead → ReadRefusal
 deep_at end [] = Syntax end
 deep_at end (l ∷ ls) = Deep l.byte
+
+unfoldable pub syntax_at : ℕ → Ahead → ReadRefusal
+syntax_at end [] = Syntax end
+syntax_at end (l ∷ ls) = Syntax l.byte
 
 -- ---- readers
 
@@ -266,8 +275,42 @@ unfoldable pub typing : ℕ → ℕ → Ahead → Read Typed
 typing end zero ls = Err (deep_at end ls)
 typing end (suc left) ls = typing_by (class_at ls) end left (typing end left) ls
 
+-- ---- annotations
+
+-- a closing bracket of that shape: what is due becomes of it
+abbrev pub closes_by : List Shape → Shape → ℕ → (List Shape → Read (Unit {0})) → Ahead → Read (Unit {0})
+closes_by [] Round end next ls = Ok (tt, ls)
+closes_by [] s end next ls = Err (syntax_at end ls)
+closes_by (due ∷ others) s end next ls = if same_shape s due then next others else Err (syntax_at end ls)
+
+abbrev pub annotated_by : Bracket → ℕ → (List Shape → Read (Unit {0})) → List Shape → Ahead → Read (Unit {0})
+annotated_by (bracket.Opens s) end next due ls = next (s ∷ due)
+annotated_by (bracket.Closes s) end next due ls = closes_by due s end next ls
+annotated_by bracket.Plain end next due ls = next due
+
+-- Tokens up to a bracket that closes none of them. Brackets of these shapes are open.
+unfoldable pub annotated : ℕ → List Shape → Ahead → Read (Unit {0})
+annotated end due [] = Err (Syntax end)
+annotated end due (l ∷ ls) = annotated_by (bracket_of l) end (λ others. annotated end others ls) due (l ∷ ls)
+
+unfoldable pub annotation : ℕ → Ahead → Read (Unit {0})
+annotation end ls = if is_closing (bracket_at ls) then Err (syntax_at end ls) else annotated end [] ls
+
+-- annotations, where there are some
+unfoldable pub annotations : ℕ → Ahead → Read (Unit {0})
+annotations end ls = if sees Comma ls then annotation end (rest ls) else Ok (tt, ls)
+
+-- what a step through annotations comes to: more of them, their end, or a refusal
+abbrev pub Steps : ℕ → List Shape → Ahead → Result Bool ReadRefusal → List Shape → Ahead → Type 0
+Steps end due ls (Ok true) others after = annotated end due ls ≡ annotated end others after
+Steps end due ls (Ok false) others after = annotated end due ls ≡ Ok (tt, after)
+Steps end due ls (Err e) others after = e ≢ Memory → annotated end due ls ≡ Err e
+
+unfoldable pub ended : ℕ → Ahead → Read (Unit {0})
+ended end ls = and_then (read_mark CloseRound end ls) (λ _ l1. read_mark Dot end l1)
+
 unfoldable pub ending : ℕ → Ahead → Read (Unit {0})
-ending end ls = and_then (read_mark CloseRound end ls) (λ _ l1. read_mark Dot end l1)
+ending end ls = and_then (annotations end ls) (λ _ l1. ended end l1)
 
 abbrev pub max_levels : ℕ
 max_levels = 501
@@ -289,7 +332,36 @@ headed end byte ls =
     and_then (read_mark Comma end l2) (λ _ l3. and_then (read_said lower_of end l3) (λ role l4. and_then (read_mark Comma end l4) (λ _ l5.
     stated end byte name role (byte_of l3) l5))))))
 
+-- ---- includes
+
+-- names, with commas between
+unfoldable mutual
+  pub names : ℕ → Ahead → Read (List (List ℕ))
+  names end [] = Err (Syntax end)
+  names end (l ∷ ls) = and_then (read_said name_of end (l ∷ ls)) (λ name _. and_then (further_names end ls) (λ others after. Ok (name ∷ others, after)))
+
+  pub further_names : ℕ → Ahead → Read (List (List ℕ))
+  further_names end [] = Ok ([], [])
+  further_names end (l ∷ ls) = if is_mark Comma l then names end ls else Ok ([], l ∷ ls)
+
+-- a name, and those that `again` reads behind a comma
+abbrev pub names_with : ℕ → (Ahead → Read (List (List ℕ))) → Ahead → Read (List (List ℕ))
+names_with end again ls = and_then (read_said name_of end ls) (λ name l1. if sees Comma l1 then and_then (again (rest l1)) (λ others after. Ok (name ∷ others, after)) else Ok (name ∷ [], l1))
+
+unfoldable pub selected : ℕ → Ahead → Read (List (List ℕ))
+selected end ls = if sees CloseSquare ls then Ok ([], rest ls) else and_then (names end ls) (λ found l1. and_then (read_mark CloseSquare end l1) (λ _ after. Ok (found, after)))
+
+unfoldable pub selection : ℕ → Ahead → Read (Option (List (List ℕ)))
+selection end ls = if sees Comma ls then and_then (read_mark OpenSquare end (rest ls)) (λ _ l1. and_then (selected end l1) (λ found after. Ok (Some found, after))) else Ok (None, ls)
+
+-- what stands behind the word `include` of a statement that begins at that byte
+unfoldable pub included : ℕ → ℕ → Ahead → Read Statement
+included end byte ls =
+    and_then (read_mark OpenRound end ls) (λ _ l1. and_then (read_guard guard.BehindBracket end l1) (λ _ _. and_then (read_said quoted_of end l1) (λ file l2.
+    and_then (selection end l2) (λ names l3. and_then (ended end l3) (λ _ after. Ok (Include byte file (byte_of l1) names, after))))))
+
 abbrev pub statement_by : Keyword → ℕ → Ahead → Read Statement
+statement_by keyword.Include end ls = included end (byte_of ls) (rest ls)
 statement_by keyword.Thf end ls = headed end (byte_of ls) (rest ls)
 statement_by _ end ls = Err (refusal_at wanted.Statement end ls)
 

@@ -10,13 +10,18 @@ use Rattle.leo_syntax.specs.declared.classes.Keyword.TheVariants as keyword
 use Rattle.leo_syntax.specs.declared.classes.Wanted.TheVariants as wanted
 use Rattle.leo_syntax.specs.declared.classes.Guard.{Guard}
 use Rattle.leo_syntax.specs.declared.classes.Guard.TheVariants as guard
+use Rattle.leo_syntax.specs.declared.classes.Shape.{Shape}
+use Rattle.leo_syntax.specs.declared.classes.Shape.TheVariants.{Round}
+use Rattle.leo_syntax.specs.declared.classes.Bracket.{Bracket}
+use Rattle.leo_syntax.specs.declared.classes.Bracket.TheVariants as bracket
 use Rattle.leo_syntax.specs.declared.tree.Connective.{Connective}
 use Rattle.leo_syntax.specs.declared.tree.Connective.TheVariants.{Or, And}
 use Rattle.leo_syntax.specs.declared.refusal.Form.{Form}
 use Rattle.leo_syntax.specs.declared.refusal.Form.TheVariants.{Equality}
 use Rattle.leo_syntax.specs.declared.refusal.ReadRefusal.{ReadRefusal}
 use Rattle.leo_syntax.specs.declared.refusal.ReadRefusal.TheVariants.{Syntax, Unsupported, Deep}
-use Rattle.leo_syntax.specs.Lexemes.{Lexeme, Ahead, is_mark, class_of, keyword_of, name_of, lower_of, upper_of, refusal, guarded}
+use Rattle.leo_syntax.specs.Classes.{same_shape}
+use Rattle.leo_syntax.specs.Lexemes.{Lexeme, Ahead, is_mark, class_of, keyword_of, bracket_of, name_of, lower_of, upper_of, quoted_of, refusal, guarded}
 
 -- A part of the grammar that the next token decides on. A number is the level at which the part stands.
 pub data Part : Type 0 where
@@ -59,6 +64,20 @@ pub data Part : Type 0 where
   variable : ℕ → Part
   -- `,` and further variables, or `]`, `:` and the body, which stands at the second level
   variables : ℕ → ℕ → Part
+  -- `,` and annotations behind a body, or nothing
+  ending : Part
+  -- the first token of annotations
+  annotation : Part
+  -- more tokens of annotations, up to the `)` behind them; brackets of these shapes are open, the last first
+  annotated : List Shape → Part
+  -- the file of an include
+  file : Part
+  -- `,` and names in brackets, or nothing
+  selection : Part
+  -- a name and further names, or `]`
+  selected : Part
+  -- `,` and further names, or `]`
+  names : Part
 
 pub data Move : Type 0 where
   -- the token is taken, and these parts are looked for next
@@ -169,13 +188,31 @@ typing_by _ level l = refuse (refusal wanted.Other l)
 
 -- what the role calls for
 abbrev pub body_of : List ℕ → List Part
-body_of word = if bytes_eq word (codes "type") then typing 0 ∷ mark CloseRound ∷ mark Dot ∷ [] else formula 0 (mark CloseRound ∷ mark Dot ∷ [])
+body_of word = if bytes_eq word (codes "type") then typing 0 ∷ ending ∷ mark CloseRound ∷ mark Dot ∷ [] else formula 0 (ending ∷ mark CloseRound ∷ mark Dot ∷ [])
 
 abbrev pub role_by : Option (List ℕ) → Lexeme → Move
 role_by (Some word) l = take (mark Comma ∷ body_of word)
 role_by None l = refuse (refusal wanted.Other l)
 
+-- Any token may stand in annotations, but brackets match. No form is unsupported there.
+abbrev pub annotation_by : Bracket → Lexeme → Move
+annotation_by (bracket.Opens s) l = take (annotated (s ∷ []) ∷ [])
+annotation_by (bracket.Closes s) l = refuse (Syntax l.byte)
+annotation_by bracket.Plain l = take (annotated [] ∷ [])
+
+-- what a closing bracket closes
+abbrev pub closes_by : List Shape → Shape → Lexeme → Move
+closes_by [] Round l = skip
+closes_by [] s l = refuse (Syntax l.byte)
+closes_by (due ∷ others) s l = if same_shape s due then take (annotated others ∷ []) else refuse (Syntax l.byte)
+
+abbrev pub annotated_by : Bracket → List Shape → Lexeme → Move
+annotated_by (bracket.Opens s) due l = take (annotated (s ∷ due) ∷ [])
+annotated_by (bracket.Closes s) due l = closes_by due s l
+annotated_by bracket.Plain due l = take (annotated due ∷ [])
+
 abbrev pub statement_by : Keyword → Lexeme → Move
+statement_by keyword.Include l = take (mark OpenRound ∷ guarding guard.BehindBracket ∷ file ∷ selection ∷ mark CloseRound ∷ mark Dot ∷ statement ∷ [])
 statement_by keyword.Thf l = take (mark OpenRound ∷ guarding guard.BehindBracket ∷ name ∷ mark Comma ∷ role ∷ statement ∷ [])
 statement_by _ l = refuse (refusal wanted.Statement l)
 
@@ -204,6 +241,13 @@ rule (operators level) l = operators_by (class_of l) level
 rule (operands c level) l = operands_by c (class_of l) level
 rule (variable level) l = if_some (upper_of l) (mark Colon ∷ typed level []) (refuse (refusal wanted.Other l))
 rule (variables level body) l = if_mark Comma l (variable level ∷ variables level (body + 1) ∷ []) (if_mark CloseSquare l (mark Colon ∷ unary body ∷ []) (refuse (refusal wanted.Other l)))
+rule ending l = if_mark Comma l (annotation ∷ []) skip
+rule annotation l = annotation_by (bracket_of l) l
+rule (annotated due) l = annotated_by (bracket_of l) due l
+rule file l = if_some (quoted_of l) [] (refuse (refusal wanted.Other l))
+rule selection l = if_mark Comma l (mark OpenSquare ∷ selected ∷ []) skip
+rule selected l = if_mark CloseSquare l [] (if_some (name_of l) (names ∷ []) (refuse (refusal wanted.Other l)))
+rule names l = if_mark Comma l (name ∷ names ∷ []) (if_mark CloseSquare l [] (refuse (refusal wanted.Other l)))
 
 -- whether a part may be missing at the end of the file
 abbrev pub may_end : Part → Bool
@@ -215,6 +259,8 @@ may_end (arguments level) = true
 may_end (equals level) = true
 may_end (operators level) = true
 may_end (operands c level) = true
+may_end ending = true
+may_end selection = true
 may_end _ = false
 
 abbrev pub all_may_end : List Part → Bool

@@ -69,6 +69,26 @@ pub enum Wanted {
     Other,
 }
 
+/// Which brackets stand around something.
+#[derive(Clone, Copy)]
+pub enum Shape {
+    /// `( )`
+    Round,
+    /// `[ ]`
+    Square,
+    /// `{ }`
+    Curly,
+}
+
+/// What a token is to annotations.
+#[derive(Clone, Copy)]
+pub enum Bracket {
+    Opens(Shape),
+    Closes(Shape),
+    /// Any other token.
+    Plain,
+}
+
 /// Which tokens say something that is looked for.
 #[derive(Clone, Copy)]
 pub enum Says {
@@ -122,6 +142,43 @@ fn mark_class(mark: Mark) -> Class
         Mark::Greater => Class::Arrow,
         Mark::Star => Class::Star,
         _ => Class::Other,
+    }
+}
+
+#[tactic(auto, unfolding(crate::specs::Classes::mark_bracket))]
+fn mark_bracket(mark: Mark) -> Bracket
+    ensures { result ≡ spec.mark_bracket mark }
+{
+    match mark {
+        Mark::OpenRound => Bracket::Opens(Shape::Round),
+        Mark::OpenSquare => Bracket::Opens(Shape::Square),
+        Mark::OpenCurly => Bracket::Opens(Shape::Curly),
+        Mark::CloseRound => Bracket::Closes(Shape::Round),
+        Mark::CloseSquare => Bracket::Closes(Shape::Square),
+        Mark::CloseCurly => Bracket::Closes(Shape::Curly),
+        _ => Bracket::Plain,
+    }
+}
+
+#[tactic(auto, unfolding(crate::specs::Classes::bracket_by))]
+pub fn bracket_of(kind: Kind) -> Bracket
+    ensures { result ≡ spec.bracket_by kind }
+{
+    match kind {
+        Kind::Mark(mark) => mark_bracket(mark),
+        _ => Bracket::Plain,
+    }
+}
+
+#[tactic(auto, unfolding(crate::specs::Classes::same_shape))]
+pub fn same_shape(shape: Shape, other: Shape) -> bool
+    ensures { result ≡ spec.same_shape shape other }
+{
+    match (shape, other) {
+        (Shape::Round, Shape::Round)
+        | (Shape::Square, Shape::Square)
+        | (Shape::Curly, Shape::Curly) => true,
+        _ => false,
     }
 }
 

@@ -5,7 +5,9 @@ ghost use Rattle.leo_syntax.specs.declared.refusal.ReadRefusal.{ReadRefusal};
 ghost use Rattle.leo_syntax.specs.declared.refusal.ReadRefusal.TheVariants.{Syntax};
 ghost use Rattle.leo_syntax.specs.Lexemes.{Ahead};
 ghost use Rattle.leo_syntax.specs.Rules.{Part, goes_on, file_outcome, refused};
-ghost use Rattle.leo_syntax.specs.Prefix.{file_steps, GoesOn, InLevels, StopsWith};
+ghost use Rattle.leo_syntax.specs.Prefix.{file_steps, GoesOn, InLevels, IsTaken, StopsWith};
+ghost use Rattle.leo_syntax.specs.Grammar.{IsFile};
+ghost use Rattle.leo_syntax.specs.declared.tree.Statement.{Statement};
 
 /// A law: a refusal is that of the first token with which no file goes on.
 pub fn refusals_are_first()
@@ -16,4 +18,9 @@ pub fn refusals_are_first()
     ensures stays { (ls : Ahead) (e : ReadRefusal) (more : Ahead) (end : ℕ) → StopsWith ls e → file_outcome end (ls ++ more) ≡ refused e }
     // Some file begins with the tokens before it, unless they lead beyond the last level.
     ensures goes_on { (ls : Ahead) (wanted : List Part) → file_steps ls ≡ goes_on wanted → InLevels wanted → GoesOn ls }
+{}
+
+/// A law: a text of the grammar is read, unless it is nested beyond the last level.
+pub fn texts_are_taken()
+    ensures { (end : ℕ) (ls : Ahead) (list : List Statement) → IsFile ls list → IsTaken (file_outcome end ls) }
 {}

@@ -6,7 +6,10 @@ ghost use Rattle.leo_syntax.specs.Lexemes as lexemes;
 ghost use Rattle.leo_syntax.specs.Reading as spec;
 ghost use Rattle.leo_syntax.specs.Fits.{TokensFit};
 
-use crate::classes::{Class, Guard, Keyword, Says, Wanted, class_of, form, guard_form, keyword_of};
+use crate::classes::{
+    Bracket, Class, Guard, Keyword, Says, Wanted, bracket_of, class_of, form, guard_form,
+    keyword_of,
+};
 use crate::refusal::{Form, ReadRefusal};
 use leo_items::Items;
 use leo_lex::{Kind, Mark, Token};
@@ -185,6 +188,17 @@ impl<'a> Source<'a> {
         }
     }
 
+    /// What the next token is to annotations.
+    #[tactic(auto, unfolding(crate::specs::Grammar::bracket_at))]
+    pub fn bracket(&self, at: usize) -> Bracket
+        ensures { result ≡ grammar.bracket_at (ahead self.now at) }
+    {
+        match self.token(at) {
+            Some(token) => bracket_of(token.kind),
+            None => Bracket::Plain,
+        }
+    }
+
     /// Passes the next token, if there is one.
     #[tactic(auto, using(crate::proofs::Sources::rest_ahead, crate::proofs::Sources::rest_none))]
     pub fn pass(&self, at: &mut usize)
@@ -254,6 +268,18 @@ impl<'a> Source<'a> {
                 byte: token.start,
                 form: Form::Equality,
             },
+            None => ReadRefusal::Syntax { byte: self.end() },
+        }
+    }
+
+    /// No file goes on with the next token, and no form has it.
+    #[tactic(auto, unfolding(crate::specs::Reading::syntax_at))]
+    pub fn no_form(&self, at: usize) -> ReadRefusal
+        requires { length self.now.bytes.now < 2 ^ 32 }
+        ensures { result ≡ spec.syntax_at (end_of self.now) (ahead self.now at) }
+    {
+        match self.token(at) {
+            Some(token) => ReadRefusal::Syntax { byte: token.start },
             None => ReadRefusal::Syntax { byte: self.end() },
         }
     }

@@ -6,8 +6,10 @@ ghost use Rattle.leo_syntax.specs.Reading as spec;
 ghost use Rattle.leo_syntax.specs.Reading.{Gives};
 ghost use Rattle.leo_syntax.specs.Source.{ahead, end_of};
 
+use crate::annotations::annotations;
 use crate::classes::{Class, Guard, Keyword, Says, Wanted};
 use crate::formulas::formula;
+use crate::includes::selection;
 use crate::refusal::ReadRefusal;
 use crate::source::Source;
 use crate::tree::Statement;
@@ -96,14 +98,26 @@ fn is_typing(role: &[u8]) -> bool
 }
 
 /// The end of a statement.
-#[tactic(auto, unfolding(crate::specs::Reading::ending))]
-fn ending(source: &Source<'_>, at: &mut usize) -> Result<(), ReadRefusal>
+#[tactic(auto, unfolding(crate::specs::Reading::ended))]
+fn ended(source: &Source<'_>, at: &mut usize) -> Result<(), ReadRefusal>
     requires { length source.now.bytes.now < 2 ^ 32 }
-    ensures gives { Gives (spec.ending (end_of source.now) (ahead source.now at.old)) result (ahead source.now at.new) }
+    ensures gives { Gives (spec.ended (end_of source.now) (ahead source.now at.old)) result (ahead source.now at.new) }
     ensures forward { at.old ≤ at.new }
 {
     source.expect(at, Mark::CloseRound)?;
     source.expect(at, Mark::Dot)?;
+    Ok(())
+}
+
+/// What stands behind a body.
+#[tactic(auto, unfolding(crate::specs::Reading::ending))]
+fn ending(alloc: Global, source: &Source<'_>, at: &mut usize) -> Result<(), ReadRefusal>
+    requires { length source.now.bytes.now < 2 ^ 32 }
+    ensures gives { Gives (spec.ending (end_of source.now) (ahead source.now at.old)) result (ahead source.now at.new) }
+    ensures forward { at.old ≤ at.new }
+{
+    annotations(alloc, source, at)?;
+    ended(source, at)?;
     Ok(())
 }
 
@@ -125,7 +139,7 @@ fn typing_statement(
         atom_byte,
         ty,
     } = typing(alloc, source, at, MAX_LEVELS)?;
-    ending(source, at)?;
+    ending(alloc, source, at)?;
     Ok(Statement::Typing {
         byte,
         name,
@@ -151,7 +165,7 @@ fn formula_statement(
     ensures forward { at.old ≤ at.new }
 {
     let tree = formula(alloc, source, at, MAX_LEVELS)?;
-    ending(source, at)?;
+    ending(alloc, source, at)?;
     Ok(Statement::Formula {
         byte,
         name,
@@ -208,6 +222,32 @@ fn headed(
     Ok(found)
 }
 
+/// What stands behind the `include` of a statement that began at `byte`.
+#[tactic(auto, unfolding(crate::specs::Reading::included))]
+fn included(
+    alloc: Global,
+    source: &Source<'_>,
+    at: &mut usize,
+    byte: u32,
+) -> Result<Statement, ReadRefusal>
+    requires { length source.now.bytes.now < 2 ^ 32 }
+    ensures gives { Gives (spec.included (end_of source.now) byte (ahead source.now at.old)) result (ahead source.now at.new) }
+    ensures forward { at.old ≤ at.new }
+{
+    source.expect(at, Mark::OpenRound)?;
+    source.guard(*at, Guard::BehindBracket)?;
+    let file_byte = source.byte_at(*at);
+    let file = source.say(alloc, at, Says::Quoted)?;
+    let names = selection(alloc, source, at)?;
+    ended(source, at)?;
+    Ok(Statement::Include {
+        byte,
+        file,
+        file_byte,
+        names,
+    })
+}
+
 /// A statement.
 #[tactic(auto, unfolding(crate::specs::Reading::statement))]
 pub fn statement(
@@ -227,6 +267,11 @@ pub fn statement(
             let found = headed(alloc, source, at, byte)?;
             Ok(found)
         }
-        _ => Err(source.refusal(*at, Wanted::Statement)),
+        Keyword::Include => {
+            source.pass(at);
+            let found = included(alloc, source, at, byte)?;
+            Ok(found)
+        }
+        Keyword::Other => Err(source.refusal(*at, Wanted::Statement)),
     }
 }
