@@ -7,13 +7,15 @@ use Rattle.leo_terms.specs.declared.node.View.TheVariants.{App, Lam, Logic}
 use Rattle.leo_q0.specs.Terms.{SimpleType, base, arrow}
 use Rattle.leo_terms.specs.Tree.{Tree, variable, bound, symbol, app, lam, logic, absent, type_of, IsBoundAt, lifted}
 use Rattle.leo_terms.specs.Reduction.{Reduces, nothing, andthen, in_app, in_lam, in_logic, beta, eta, IsBase, IsNormal, IsNeutral}
-use Rattle.leo_terms.specs.Normal.{IsPut, IsNormalFormOf, IsNormalArgumentOf}
+use Rattle.leo_terms.specs.NormalForm.{eta_long, normal_form}
+use Rattle.leo_terms.specs.Normal.{IsPut, IsFormOf, IsNormalFormOf, IsExpansionOf, IsNormalArgumentOf}
 use Rattle.leo_terms.specs.Contents.{Contents, node, type_at, tree_at, connective, argument, argument_type, type_number, IsArrow, IsArgumentBelow, IsSoundNode, IsSound, Grows, IsTerm, IsArgumentTerm}
 use Rattle.leo_terms.proofs.Growth.{arrow-below, ty-base, ty-arrow, ty-keeps, tree-keeps, type_number-keeps, argument_type-keeps, argument-same, IsKept-length, Grows-trans, IsArrow-keeps}
 use Rattle.leo_terms.proofs.Rebuild.{HasView, view_sound, tree-app, tree-lam, tree-logic, bound-lam, IsTerm-keeps, IsArgumentBelow-length}
 use Rattle.leo_terms.proofs.ReductionLemmas.{IsForm-lifted, IsBoundAt-reduces, IsBoundAt-gap}
 use Rattle.leo_terms.proofs.TypeLemmas.{arrow-same}
 use Rattle.leo_terms.proofs.NormalLemmas.{type_of-tree, view-of_function}
+use Rattle.leo_terms.proofs.FormLemmas.{expanded-arrow, normal-app}
 
 -- a head with arguments, of a base type, is normal
 IsNormal-base : (t : Tree) → IsNeutral t → IsBase (type_of t) → IsNormal t
@@ -25,12 +27,13 @@ IsNormal-base (lam a t) h b = absurd h
 IsNormal-base (logic c x y) h b = (h.0, h.1, b)
 IsNormal-base absent h b = tt
 
-pub IsNormalFormOf-base : (c : Contents) → IsSound c → (t n : ℕ) → t < length c.terms → IsNeutral (tree_at c t) → slice_get c.types (type_number c t) ≡ Some (Base n) → IsNormalFormOf c c t t
-IsNormalFormOf-base c s t n l h e =
+pub IsExpansionOf-base : (c : Contents) → IsSound c → (t n : ℕ) → t < length c.terms → IsNeutral (tree_at c t) → slice_get c.types (type_number c t) ≡ Some (Base n) → IsExpansionOf c c t t
+IsExpansionOf-base c s t n l h e =
     let b : type_of (tree_at c t) ≡ base n = type_of-tree c s t l ∙ ty-base c (type_number c t) n e in
     record {
       within = l;
       type_is = refl;
+      value = rw b refl;
       reduces = nothing (tree_at c t);
       normal = IsNormal-base (tree_at c t) h (rw b tt);
     }
@@ -56,7 +59,7 @@ IsArrow-parts a b g t i j e =
 
 -- the steps of an expansion at a type of functions, of which each names the bank after it:
 -- the term is lifted (b), the index is made (c) and expanded (d), the application is made (e) and expanded (f), and the lambda is made (g)
-module _ (a b c d : Contents) (ab : Grows a b) (bc : Grows b c) (cd : Grows c d) (t i j u x x' : ℕ) (l : t < length a.terms) (neutral : IsNeutral (tree_at a t)) (ty : slice_get a.types (type_number a t) ≡ Some (Arrow i j)) (raised : IsTerm b u (type_number a t) (lifted 0 1 (tree_at a t))) (index : IsTerm c x i (bound 0 (type_at b i))) (expanded : IsNormalFormOf c d x x') where
+module _ (a b c d : Contents) (ab : Grows a b) (bc : Grows b c) (cd : Grows c d) (t i j u x x' : ℕ) (l : t < length a.terms) (neutral : IsNeutral (tree_at a t)) (ty : slice_get a.types (type_number a t) ≡ Some (Arrow i j)) (raised : IsTerm b u (type_number a t) (lifted 0 1 (tree_at a t))) (index : IsTerm c x i (bound 0 (type_at b i))) (expansion : IsExpansionOf c d x x') where
   expand_arrow : IsArrow a (type_number a t) i j
   expand_arrow = record { arrow_node = ty }
 
@@ -73,15 +76,15 @@ module _ (a b c d : Contents) (ab : Grows a b) (bc : Grows b c) (cd : Grows c d)
   expand_app-sound =
       let ad = Grows-trans a b d ab expand_b_d in
       let h : IsArrow d (type_number a t) i j = IsArrow-keeps a d ad.keeps _ _ _ expand_arrow in
-      let k : type_number d x' ≡ i = expanded.type_is ∙ index.type_is in
-      IsSoundNode-app_of d cd.new_sound u x' j expand_raised.within expanded.within (rw (expand_raised.type_is, k) h)
+      let k : type_number d x' ≡ i = expansion.type_is ∙ index.type_is in
+      IsSoundNode-app_of d cd.new_sound u x' j expand_raised.within expansion.within (rw (expand_raised.type_is, k) h)
 
   module _ (e : Contents) (de : Grows d e) (y : ℕ) (applied : IsTerm e y j (app (tree_at d u) (tree_at d x'))) where
     expand_reads : tree_at e y ≡ app (lifted 0 1 (tree_at a t)) (tree_at d x')
     expand_reads = rw expand_raised.reads at applied.reads
 
     pub expand_app-neutral : IsNeutral (tree_at e y)
-    expand_app-neutral = rw expand_reads (IsForm-lifted (tree_at a t) false 0 1 neutral, expanded.normal, tt)
+    expand_app-neutral = rw expand_reads (IsForm-lifted (tree_at a t) false 0 1 neutral, expansion.normal, tt)
 
     pub expand_app-falls : type_number e y < type_number a t
     expand_app-falls = let k = applied.type_is in let m = expand_below in omega arith
@@ -93,15 +96,15 @@ module _ (a b c d : Contents) (ab : Grows a b) (bc : Grows b c) (cd : Grows c d)
     expand_reduces : Reduces (tree_at a t) (lam (type_at a i) (tree_at e y))
     expand_reduces =
         let q : type_of (tree_at a t) ≡ arrow (type_at a i) (type_at a j) = type_of-tree a ab.old_sound t l ∙ ty-arrow a ab.old_sound (type_number a t) i j ty in
-        let p : Reduces (bound 0 (type_at a i)) (tree_at d x') = rw (← index_type, ← index.reads) expanded.reduces in
+        let p : Reduces (bound 0 (type_at a i)) (tree_at d x') = rw (← index_type, ← index.reads) expansion.reduces in
         rw expand_reads (andthen _ _ _ (eta (type_at a i) (type_at a j) (tree_at a t) q) (in_lam (type_at a i) _ _ (in_app _ _ _ _ (nothing (lifted 0 1 (tree_at a t))) p)))
 
     expand_bound : IsBoundAt 0 (type_at a i) (tree_at e y)
     expand_bound =
-        let p : Reduces (bound 0 (type_at a i)) (tree_at d x') = rw (← index_type, ← index.reads) expanded.reduces in
+        let p : Reduces (bound 0 (type_at a i)) (tree_at d x') = rw (← index_type, ← index.reads) expansion.reduces in
         rw expand_reads (IsBoundAt-gap (tree_at a t) 0 0 1 (type_at a i) (omega arith) (omega arith), IsBoundAt-reduces (bound 0 (type_at a i)) (tree_at d x') p 0 (type_at a i) (λ _. refl))
 
-    module _ (f : Contents) (ef : Grows e f) (y' : ℕ) (body : IsNormalFormOf e f y y') where
+    module _ (f : Contents) (ef : Grows e f) (y' : ℕ) (body : IsExpansionOf e f y y') where
       expand_a_f : Grows a f
       expand_a_f = Grows-trans a d f (Grows-trans a b d ab expand_b_d) (Grows-trans d e f de ef)
 
@@ -114,35 +117,40 @@ module _ (a b c d : Contents) (ab : Grows a b) (bc : Grows b c) (cd : Grows c d)
           let k : type_number f y' ≡ j = body.type_is ∙ applied.type_is in
           IsSoundNode-lam_of f ef.new_sound i y' (type_number a t) body.within (rw k h) (rw expand_type (IsBoundAt-reduces (tree_at e y) (tree_at f y') body.reduces 0 (type_at a i) expand_bound))
 
-      pub IsNormalFormOf-expanded : (g : Contents) (r : ℕ) → IsTerm g r (type_number a t) (lam (type_at f i) (tree_at f y')) → IsNormalFormOf a g t r
-      IsNormalFormOf-expanded g r m =
+      pub IsExpansionOf-expanded : (g : Contents) (r : ℕ) → IsTerm g r (type_number a t) (lam (type_at f i) (tree_at f y')) → IsExpansionOf a g t r
+      IsExpansionOf-expanded g r m =
           let q : tree_at g r ≡ lam (type_at a i) (tree_at f y') = rw expand_type at m.reads in
+          let o : type_of (tree_at a t) ≡ arrow (type_at a i) (type_at a j) = type_of-tree a ab.old_sound t l ∙ ty-arrow a ab.old_sound (type_number a t) i j ty in
+          let u : tree_at d x' ≡ eta_long (bound 0 (type_at a i)) = rw (index.reads, index_type) at expansion.value in
           record {
             within = m.within;
             type_is = m.type_is;
+            value = q ∙ expanded-arrow (tree_at a t) (tree_at d x') (tree_at e y) (tree_at f y') (type_at a i) (type_at a j) o u expand_reads body.value;
             reduces = rw q (andthen _ _ _ expand_reduces (in_lam (type_at a i) _ _ body.reduces));
             normal = rw q body.normal;
           }
 
 -- normal forms as the bank grows
-pub IsNormalFormOf-grows : (a b c : Contents) → Grows b c → (t r : ℕ) → IsNormalFormOf a b t r → IsNormalFormOf a c t r
-IsNormalFormOf-grows a b c g t r p =
+pub IsFormOf-grows : {form : Tree → Tree} (a b c : Contents) → Grows b c → (t r : ℕ) → IsFormOf form a b t r → IsFormOf form a c t r
+IsFormOf-grows a b c g t r p =
     let e : tree_at c r ≡ tree_at b r = tree-keeps b c g.old_sound g.keeps r p.within in
     let l = IsKept-length b.terms c.terms g.keeps.terms in
     let w = p.within in
     record {
       within = omega arith;
       type_is = type_number-keeps b c g.keeps r p.within ∙ p.type_is;
+      value = rw e p.value;
       reduces = rw e p.reduces;
       normal = rw e p.normal;
     }
 
-pub IsNormalFormOf-from : (a b c : Contents) → Grows a b → (t r : ℕ) → t < length a.terms → IsNormalFormOf b c t r → IsNormalFormOf a c t r
-IsNormalFormOf-from a b c g t r l p =
+pub IsFormOf-from : {form : Tree → Tree} (a b c : Contents) → Grows a b → (t r : ℕ) → t < length a.terms → IsFormOf form b c t r → IsFormOf form a c t r
+IsFormOf-from a b c g t r l p =
     let e : tree_at b t ≡ tree_at a t = tree-keeps a b g.old_sound g.keeps t l in
     record {
       within = p.within;
       type_is = p.type_is ∙ type_number-keeps a b g.keeps t l;
+      value = rw (← e) p.value;
       reduces = rw (← e) p.reduces;
       normal = p.normal;
     }
@@ -153,6 +161,7 @@ IsNormalArgumentOf-grows a b c g x r p =
     record {
       within = IsArgumentBelow-length (length b.terms) (length c.terms) (IsKept-length b.terms c.terms g.keeps.terms) r p.within;
       type_is = argument_type-keeps b c g.keeps (length b.terms) (omega arith) r p.within ∙ p.type_is;
+      value = rw e p.value;
       reduces = rw e p.reduces;
       normal = rw e p.normal;
     }
@@ -163,6 +172,7 @@ IsNormalArgumentOf-from a b c g x r l p =
     record {
       within = p.within;
       type_is = p.type_is ∙ argument_type-keeps a b g.keeps (length a.terms) (omega arith) x l;
+      value = rw (← e) p.value;
       reduces = rw (← e) p.reduces;
       normal = p.normal;
     }
@@ -173,11 +183,12 @@ IsTerm-normal a b t r p = record { within = p.within; type_is = p.type_is; reads
 pub IsArgumentTerm-normal : (a b : Contents) (x r : Option ℕ) → IsNormalArgumentOf a b x r → IsArgumentTerm b r (argument_type a x) (argument (tree_at b) r)
 IsArgumentTerm-normal a b x r p = record { within = p.within; type_is = p.type_is; reads = refl }
 
--- a normal form of what a term reduces to is one of the term
-pub IsNormalFormOf-after : (a b c : Contents) (t r u : ℕ) → type_number b r ≡ type_number a t → Reduces (tree_at a t) (tree_at b r) → IsNormalFormOf b c r u → IsNormalFormOf a c t u
-IsNormalFormOf-after a b c t r u e d p = record {
+-- the expansion of what a term reduces to, where the definition says the same
+pub IsNormalFormOf-after : (a b c : Contents) (t r u : ℕ) → type_number b r ≡ type_number a t → Reduces (tree_at a t) (tree_at b r) → normal_form (tree_at a t) ≡ eta_long (tree_at b r) → IsExpansionOf b c r u → IsNormalFormOf a c t u
+IsNormalFormOf-after a b c t r u e d v p = record {
   within = p.within;
   type_is = p.type_is ∙ e;
+  value = p.value ∙ sym v;
   reduces = andthen _ _ _ d p.reduces;
   normal = p.normal;
 }
@@ -218,6 +229,7 @@ module _ (a c : Contents) (g : Grows a c) (t f x f' x' : ℕ) (v : HasView a t (
         record {
           within = m.within;
           type_is = m.type_is ∙ normal_types.1;
+          value = rw (tree-app a g.old_sound t f x v) (normal-app (tree_at a f) (tree_at a x) (type_at c i) (tree_at c b) (tree_at c x') (tree_at d r) (sym e ∙ p.value) q.value m.value);
           reduces = andthen _ _ _ s (andthen _ _ _ (beta (type_at c i) (tree_at c b) (tree_at c x') (bound-lam c g.new_sound f' i b h) w) m.reduces);
           normal = m.normal normal_body;
         }
@@ -230,6 +242,7 @@ pub IsNormalFormOf-lam : (a b d : Contents) → Grows a b → (t i x x' r : ℕ)
 IsNormalFormOf-lam a b d g t i x x' r v p m = record {
   within = m.within;
   type_is = m.type_is;
+  value = rw (m.reads, tree-lam a g.old_sound t i x v) (ap (lam (type_at a i)) p.value);
   reduces = rw (m.reads, tree-lam a g.old_sound t i x v) (in_lam (type_at a i) _ _ p.reduces);
   normal = rw m.reads p.normal;
 }
@@ -240,3 +253,10 @@ normal_logic-neutral a c d o x y x' y' i r p q m = rw m.reads (p.normal, q.norma
 
 pub normal_logic-reduces : (a c d : Contents) → IsSound a → (t : ℕ) (o : Op) (x y x' y' : Option ℕ) (i r : ℕ) → HasView a t (Logic o x y) → IsNormalArgumentOf a c x x' → IsNormalArgumentOf a c y y' → IsTerm d r i (logic (connective a o) (argument (tree_at c) x') (argument (tree_at c) y')) → Reduces (tree_at a t) (tree_at d r)
 normal_logic-reduces a c d s t o x y x' y' i r v p q m = rw (m.reads, tree-logic a s t o x y v) (in_logic (connective a o) _ _ _ _ p.reduces q.reduces)
+
+pub normal_logic-value : (a c d : Contents) → IsSound a → (t : ℕ) (o : Op) (x y x' y' : Option ℕ) (i r : ℕ) → HasView a t (Logic o x y) → IsNormalArgumentOf a c x x' → IsNormalArgumentOf a c y y' → IsTerm d r i (logic (connective a o) (argument (tree_at c) x') (argument (tree_at c) y')) → normal_form (tree_at a t) ≡ eta_long (tree_at d r)
+normal_logic-value a c d s t o x y x' y' i r v p q m = rw (m.reads, tree-logic a s t o x y v, p.value, q.value) refl
+
+-- and that of a term without parts
+pub IsNormalFormOf-leaf : (a c : Contents) (t u : ℕ) → normal_form (tree_at a t) ≡ eta_long (tree_at a t) → IsExpansionOf a c t u → IsNormalFormOf a c t u
+IsNormalFormOf-leaf a c t u v p = IsNormalFormOf-after a a c t t u refl (nothing (tree_at a t)) v p

@@ -139,6 +139,7 @@ tree-node c s t v i h =
     rw h (view_tree-same c c (λ j q. refl) (λ u. tree_within c (suc u) u) (tree_within c t) t same v (type_at c i) (parts_below c s t v i m.view_sound))
 
 pub type_number-node : (c : Contents) (t : ℕ) (n : TermNode) → slice_get c.terms t ≡ Some n → type_number c t ≡ n.ty
+unfolding type_number
 type_number-node c t n h = ap number_in h
 
 pub type_number-keeps : (c d : Contents) → Keeps c d → (t : ℕ) → t < length c.terms → type_number d t ≡ type_number c t

@@ -7,11 +7,15 @@ pub mod TreeLemmas
 pub mod Measures
 pub mod ReductionLemmas
 pub mod NormalLemmas
+pub mod FormLemmas
+pub mod LiftLemmas
+pub mod NormalFormLaws
 pub mod TypeLemmas
 pub mod PutLemmas
 pub mod ExpandLemmas
 pub mod SubstLemmas
 pub mod TypingLemmas
+pub mod NormalFormTyping
 pub mod DecodedTypes
 pub mod DecodedShapes
 pub mod Fitting
@@ -19,5 +23,6 @@ pub mod DecodedReductions
 pub mod TermLemmas
 pub mod DecodedSubstitutions
 pub mod MemoLemmas
+pub mod PublicWords
 pub mod ClosedTerms
 pub mod CallerLemmas

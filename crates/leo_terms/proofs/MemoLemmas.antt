@@ -6,14 +6,14 @@ use Rattle.std.specs.Option.{IfSome}
 use Rattle.indexmap.specs.IndexMap.{insert_entry}
 use Rattle.leo_terms.specs.declared.memo.Lift.{Lift}
 use Rattle.leo_terms.specs.declared.memo.Put.{Put}
-use Rattle.leo_terms.specs.Tree.{lifted}
+use Rattle.leo_terms.specs.Tree.{Tree, lifted}
 use Rattle.leo_terms.specs.Contents.{Contents, IsTerm, Grows, tree_at, type_number}
-use Rattle.leo_terms.specs.Normal.{IsNormalFormOf, IsPut}
-use Rattle.leo_terms.specs.Memo.{AllEntries, IsLifted, IsPutIn, IsNormalized, AreRight}
+use Rattle.leo_terms.specs.Normal.{IsFormOf, IsPut}
+use Rattle.leo_terms.specs.Memo.{AllEntries, IsLifted, IsPutIn, IsNormalized, IsExpanded, AreRight}
 use Rattle.leo_terms.proofs.Growth.{IsKept-length, tree-keeps, type_number-keeps}
 use Rattle.leo_terms.proofs.Rebuild.{IsTerm-keeps}
 use Rattle.leo_terms.proofs.PutLemmas.{IsPut-grows}
-use Rattle.leo_terms.proofs.ExpandLemmas.{IsNormalFormOf-grows}
+use Rattle.leo_terms.proofs.ExpandLemmas.{IsFormOf-grows}
 
 module _ {K : Type 0} where
   lookup-entry : (test : K → Bool) (es : List (K × ℕ)) (r : ℕ) → lookup test es ≡ Some r → (i : ℕ) × (k : K) × (slice_get es i ≡ Some (k, r)) × (test k ≡ true)
@@ -64,18 +64,20 @@ module _ (c d : Contents) (g : Grows c d) where
       record {
         within = p.within;
         type_is = p.type_is ∙ sym i;
+        value = rw (e, f) p.value;
         reduces = rw (e, f) p.reduces;
         normal = rw e p.normal;
-        neutral = rw (e, i, j) p.neutral;
+        neutral = rw (e, f, i, j) p.neutral;
       }
 
-  pub IsNormalFormOf-since : (t r : ℕ) → t < length c.terms → IsNormalFormOf c d t r → IsNormalFormOf d d t r
-  IsNormalFormOf-since t r l p =
+  pub IsFormOf-since : {form : Tree → Tree} (t r : ℕ) → t < length c.terms → IsFormOf form c d t r → IsFormOf form d d t r
+  IsFormOf-since t r l p =
       let e : tree_at d t ≡ tree_at c t = tree-keeps c d g.old_sound g.keeps t l in
       let i : type_number d t ≡ type_number c t = type_number-keeps c d g.keeps t l in
       record {
         within = p.within;
         type_is = p.type_is ∙ sym i;
+        value = rw e p.value;
         reduces = rw e p.reduces;
         normal = p.normal;
       }
@@ -107,17 +109,24 @@ module _ (c d : Contents) (g : Grows c d) where
   IsNormalized-grows t r h =
       let l = IsKept-length c.terms d.terms g.keeps.terms in
       let w = h.known in
-      record { known = omega arith; made = IsNormalFormOf-since t r h.known (IsNormalFormOf-grows c c d g t r h.made) }
+      record { known = omega arith; made = IsFormOf-since t r h.known (IsFormOf-grows c c d g t r h.made) }
 
-  pub AreRight-grows : (l : List (Lift × ℕ)) (p : List (Put × ℕ)) (n : List (ℕ × ℕ)) → AreRight c l p n → AreRight d l p n
-  AreRight-grows l p n h = record {
+  IsExpanded-grows : (t r : ℕ) → IsExpanded c t r → IsExpanded d t r
+  IsExpanded-grows t r h =
+      let l = IsKept-length c.terms d.terms g.keeps.terms in
+      let w = h.known in
+      record { known = omega arith; made = IsFormOf-since t r h.known (IsFormOf-grows c c d g t r h.made) }
+
+  pub AreRight-grows : (l : List (Lift × ℕ)) (p : List (Put × ℕ)) (x n : List (ℕ × ℕ)) → AreRight c l p x n → AreRight d l p x n
+  AreRight-grows l p x n h = record {
     lifts_right = λ i k r e. IsLifted-grows k r (h.lifts_right i k r e);
     puts_right = λ i k r e. IsPutIn-grows k r (h.puts_right i k r e);
+    expansions_right = λ i t r e. IsExpanded-grows t r (h.expansions_right i t r e);
     normals_right = λ i t r e. IsNormalized-grows t r (h.normals_right i t r e);
   }
 
 -- a table with one more result
-module _ (c : Contents) (l : List (Lift × ℕ)) (p : List (Put × ℕ)) (n : List (ℕ × ℕ)) (h : AreRight c l p n) where
+module _ (c : Contents) (l : List (Lift × ℕ)) (p : List (Put × ℕ)) (x n : List (ℕ × ℕ)) (h : AreRight c l p x n) where
   abbrev pub Gains : {K : Type 0} → (K → K → Bool) → List (K × ℕ) → List (K × ℕ) → K → ℕ → Type 0
   Gains {K} eq old new key r = (i : ℕ) (k : K) (v : ℕ) → slice_get new i ≡ Some (k, v) → (slice_get old i ≡ Some (k, v)) ⊎ ((v ≡ r) × (eq key k ≡ true))
 
@@ -128,31 +137,43 @@ module _ (c : Contents) (l : List (Lift × ℕ)) (p : List (Put × ℕ)) (n : Li
         | inr g ↦ (let f = same key k g.1 in subst (λ (w : ℕ). P k w) (sym g.0) (subst (λ (j : _). P j r) f now))
       ]
 
-  pub AreRight-lift : (eq : Lift → Lift → Bool) → ((a b : Lift) → eq a b ≡ true → a ≡ b) → (new : List (Lift × ℕ)) (key : Lift) (r : ℕ) → IsLifted c key r → Gains eq l new key r → AreRight c new p n
+  pub AreRight-lift : (eq : Lift → Lift → Bool) → ((a b : Lift) → eq a b ≡ true → a ≡ b) → (new : List (Lift × ℕ)) (key : Lift) (r : ℕ) → IsLifted c key r → Gains eq l new key r → AreRight c new p x n
   AreRight-lift eq same new key r now gains = record {
     lifts_right = gained (IsLifted c) eq same l new key r h.lifts_right now gains;
     puts_right = h.puts_right;
+    expansions_right = h.expansions_right;
     normals_right = h.normals_right;
   }
 
-  pub AreRight-put : (eq : Put → Put → Bool) → ((a b : Put) → eq a b ≡ true → a ≡ b) → (new : List (Put × ℕ)) (key : Put) (r : ℕ) → IsPutIn c key r → Gains eq p new key r → AreRight c l new n
+  pub AreRight-put : (eq : Put → Put → Bool) → ((a b : Put) → eq a b ≡ true → a ≡ b) → (new : List (Put × ℕ)) (key : Put) (r : ℕ) → IsPutIn c key r → Gains eq p new key r → AreRight c l new x n
   AreRight-put eq same new key r now gains = record {
     lifts_right = h.lifts_right;
     puts_right = gained (IsPutIn c) eq same p new key r h.puts_right now gains;
+    expansions_right = h.expansions_right;
     normals_right = h.normals_right;
   }
 
-  pub AreRight-normal : (eq : ℕ → ℕ → Bool) → ((a b : ℕ) → eq a b ≡ true → a ≡ b) → (new : List (ℕ × ℕ)) (t r : ℕ) → IsNormalized c t r → Gains eq n new t r → AreRight c l p new
+  pub AreRight-normal : (eq : ℕ → ℕ → Bool) → ((a b : ℕ) → eq a b ≡ true → a ≡ b) → (new : List (ℕ × ℕ)) (t r : ℕ) → IsNormalized c t r → Gains eq n new t r → AreRight c l p x new
   AreRight-normal eq same new t r now gains = record {
     lifts_right = h.lifts_right;
     puts_right = h.puts_right;
+    expansions_right = h.expansions_right;
     normals_right = gained (IsNormalized c) eq same n new t r h.normals_right now gains;
   }
 
-  pub AreRight-fewer : (l' : List (Lift × ℕ)) (p' : List (Put × ℕ)) → ((i : ℕ) (k : Lift) (r : ℕ) → slice_get l' i ≡ Some (k, r) → slice_get l i ≡ Some (k, r)) → ((i : ℕ) (k : Put) (r : ℕ) → slice_get p' i ≡ Some (k, r) → slice_get p i ≡ Some (k, r)) → AreRight c l' p' n
-  AreRight-fewer l' p' f g = record {
+  pub AreRight-expansion : (eq : ℕ → ℕ → Bool) → ((a b : ℕ) → eq a b ≡ true → a ≡ b) → (new : List (ℕ × ℕ)) (t r : ℕ) → IsExpanded c t r → Gains eq x new t r → AreRight c l p new n
+  AreRight-expansion eq same new t r now gains = record {
+    lifts_right = h.lifts_right;
+    puts_right = h.puts_right;
+    expansions_right = gained (IsExpanded c) eq same x new t r h.expansions_right now gains;
+    normals_right = h.normals_right;
+  }
+
+  pub AreRight-fewer : (l' : List (Lift × ℕ)) (p' : List (Put × ℕ)) (x' : List (ℕ × ℕ)) → ((i : ℕ) (k : Lift) (r : ℕ) → slice_get l' i ≡ Some (k, r) → slice_get l i ≡ Some (k, r)) → ((i : ℕ) (k : Put) (r : ℕ) → slice_get p' i ≡ Some (k, r) → slice_get p i ≡ Some (k, r)) → ((i k r : ℕ) → slice_get x' i ≡ Some (k, r) → slice_get x i ≡ Some (k, r)) → AreRight c l' p' x' n
+  AreRight-fewer l' p' x' f g j = record {
     lifts_right = λ i k r e. h.lifts_right i k r (f i k r e);
     puts_right = λ i k r e. h.puts_right i k r (g i k r e);
+    expansions_right = λ i k r e. h.expansions_right i k r (j i k r e);
     normals_right = h.normals_right;
   }
 
@@ -164,9 +185,10 @@ module _ (c : Contents) (l : List (Lift × ℕ)) (p : List (Put × ℕ)) (n : Li
       subst (λ (j : Put). (j.term < length c.terms) × (j.put < length c.terms) × IsPut c c j.term j.index j.put r) (sym e) (w.known, w.put_known, w.made)
 
 -- nothing is kept
-pub AreRight-none : (c : Contents) (l : List (Lift × ℕ)) (p : List (Put × ℕ)) (n : List (ℕ × ℕ)) → l ≡ [] → p ≡ [] → n ≡ [] → AreRight c l p n
-AreRight-none c l p n e f g = record {
-  lifts_right = λ i k r h. absurd (let j = rw e at h in cc);
-  puts_right = λ i k r h. absurd (let j = rw f at h in cc);
-  normals_right = λ i k r h. absurd (let j = rw g at h in cc);
+pub AreRight-none : (c : Contents) (l : List (Lift × ℕ)) (p : List (Put × ℕ)) (x n : List (ℕ × ℕ)) → l ≡ [] → p ≡ [] → x ≡ [] → n ≡ [] → AreRight c l p x n
+AreRight-none c l p x n e f j g = record {
+  lifts_right = λ i k r h. absurd (let q = rw e at h in cc);
+  puts_right = λ i k r h. absurd (let q = rw f at h in cc);
+  expansions_right = λ i k r h. absurd (let q = rw j at h in cc);
+  normals_right = λ i k r h. absurd (let q = rw g at h in cc);
 }

@@ -1,18 +1,20 @@
 -- How a normal term with a normal term put in is made of its parts.
-use Rattle.std.proofs.Common.{ℕ, ◌≡◌, ◌+◌, ◌-◌, ◌^◌, ◌<◌, ◌≤◌, true, length, Option, refl, sym, ◌∙◌, ap, ◌⊎◌, inl, inr, arith}
+use Rattle.std.proofs.Common.{ℕ, suc, ◌≡◌, ◌+◌, ◌-◌, ◌^◌, ◌<◌, ◌≤◌, true, length, Option, refl, sym, ◌∙◌, ap, ◌⊎◌, inl, inr, arith}
 use Rattle.leo_terms.specs.declared.node.Op.{Op}
 use Rattle.leo_terms.specs.declared.node.View.{View}
 use Rattle.leo_terms.specs.declared.node.View.TheVariants.{Bound, App, Lam, Logic}
-use Rattle.leo_q0.specs.Terms.{SimpleType}
+use Rattle.leo_q0.specs.Terms.{SimpleType, arrow}
 use Rattle.leo_terms.specs.Tree.{Tree, bound, app, lam, logic, Connective, type_of, IsBoundAt, lifted, opened, bound_opened}
 use Rattle.leo_terms.specs.Reduction.{Reduces, nothing, andthen, in_app, in_lam, in_logic, beta, IsNormal, IsNeutral}
+use Rattle.leo_terms.specs.NormalForm.{type_size, put_within}
 use Rattle.leo_terms.specs.Normal.{IsPut, IsPutArgument}
 use Rattle.leo_terms.specs.Contents.{Contents, type_at, tree_at, connective, argument, argument_type, type_number, IsArrow, IsArgumentBelow, IsSound, Grows, IsTerm, IsArgumentTerm}
-use Rattle.leo_terms.proofs.Growth.{arrow-below, ty-keeps, tree-keeps, type_number-keeps, argument_type-keeps, argument-same, IsKept-length, IsArrow-keeps}
+use Rattle.leo_terms.proofs.Growth.{arrow-below, ty-arrow, ty-keeps, tree-keeps, type_number-keeps, argument_type-keeps, argument-same, IsKept-length, IsArrow-keeps}
 use Rattle.leo_terms.proofs.Rebuild.{HasView, view_sound, tree-app, tree-lam, tree-logic, tree-bound, bound-lam, IsArgumentBelow-length, IsSoundNode-leaf}
 use Rattle.leo_terms.proofs.ReductionLemmas.{IsForm-lifted, IsBoundAt-reduces, IsBoundAt-opened, bound_opened-at, bound_opened-above}
 use Rattle.leo_terms.proofs.TypeLemmas.{type_at-injective, arrow-same}
 use Rattle.leo_terms.proofs.NormalLemmas.{type_of-tree, view-of_function}
+use Rattle.leo_terms.proofs.FormLemmas.{type_size-positive, put-app, put-logic, put-redex}
 
 -- neutral or normal
 abbrev pub IsReady : Tree → Type 0
@@ -31,10 +33,11 @@ IsReady-logic c x y (inl h) = (h.0, h.1)
 IsReady-logic c x y (inr h) = (h.0, h.1)
 
 -- a term that has nothing at the index stays
-pub IsPut-itself : (c : Contents) (t k s : ℕ) (u : Tree) → t < length c.terms → tree_at c t ≡ u → opened k (tree_at c s) u ≡ u → IsPut c c t k s t
-IsPut-itself c t k s u l e f = record {
+pub IsPut-itself : (c : Contents) (t k s : ℕ) (u : Tree) → t < length c.terms → tree_at c t ≡ u → opened k (tree_at c s) u ≡ u → ((depth : ℕ) → put_within (suc depth) k (tree_at c s) u ≡ u) → IsPut c c t k s t
+IsPut-itself c t k s u l e f g = record {
   within = l;
   type_is = refl;
+  value = λ depth _. rw e (sym (g depth));
   reduces = rw (e, f) (nothing u);
   normal = λ h. h;
   neutral = λ h. inl h;
@@ -47,13 +50,15 @@ IsPut-at c d w t k s i r l m v e h n p =
     let g : type_at c (type_number c t) ≡ type_at c (type_number c s) = (rw b at h) e in
     let j : type_number c t ≡ type_number c s = type_at-injective c w _ _ (IsSoundNode-leaf c w t l) (IsSoundNode-leaf c w s m) g in
     let f : IsNormal (lifted 0 i (tree_at c s)) = IsForm-lifted (tree_at c s) true 0 i n in
+    let y : type_size (type_of (tree_at c t)) ≡ type_size (type_of (tree_at c s)) = ap type_size (type_of-tree c w t l ∙ g ∙ sym (type_of-tree c w s m)) in
     let o : bound_opened k (tree_at c s) i (type_at c (type_number c t)) ≡ lifted 0 k (tree_at c s) = bound_opened-at k (tree_at c s) i _ e in
     record {
       within = p.within;
       type_is = p.type_is ∙ sym j;
+      value = λ depth _. rw (b, p.reads, o, e) refl;
       reduces = rw (b, p.reads, o, e) (nothing (lifted 0 k (tree_at c s)));
       normal = λ _. rw p.reads f;
-      neutral = λ _. inr (rw p.reads f, omega arith);
+      neutral = λ _. inr (rw p.reads f, omega arith, omega arith);
     }
 
 -- an index above is lowered
@@ -64,6 +69,7 @@ IsPut-above c d w t k s i r v e p =
     record {
       within = p.within;
       type_is = p.type_is;
+      value = λ depth _. rw (b, p.reads, o) refl;
       reduces = rw (b, p.reads, o) (nothing (bound (i - 1) (type_at c (type_number c t))));
       normal = rw (b, p.reads) (λ h. h);
       neutral = λ _. rw p.reads (inl tt);
@@ -84,6 +90,7 @@ IsPut-grows a b c g t k s r p =
     record {
       within = omega arith;
       type_is = type_number-keeps b c g.keeps r p.within ∙ p.type_is;
+      value = rw e p.value;
       reduces = rw e p.reduces;
       normal = rw e p.normal;
       neutral = rw e p.neutral;
@@ -99,9 +106,10 @@ IsPut-from a b c g t k s r l m p =
     record {
       within = p.within;
       type_is = p.type_is ∙ i;
+      value = rw (← e, ← f) p.value;
       reduces = rw (← e, ← f) p.reduces;
       normal = rw (← e) p.normal;
-      neutral = rw (← e, ← i, ← j) p.neutral;
+      neutral = rw (← e, ← f, ← i, ← j) p.neutral;
     }
 
 pub IsPutArgument-grows : (a b c : Contents) → Grows b c → (x : Option ℕ) (k s : ℕ) (r : Option ℕ) → IsPutArgument a b x k s r → IsPutArgument a c x k s r
@@ -110,6 +118,7 @@ IsPutArgument-grows a b c g x k s r p =
     record {
       within = IsArgumentBelow-length (length b.terms) (length c.terms) (IsKept-length b.terms c.terms g.keeps.terms) r p.within;
       type_is = argument_type-keeps b c g.keeps (length b.terms) (omega arith) r p.within ∙ p.type_is;
+      value = rw e p.value;
       reduces = rw e p.reduces;
       normal = rw e p.normal;
     }
@@ -121,6 +130,7 @@ IsPutArgument-from a b c g x k s r l m p =
     record {
       within = p.within;
       type_is = p.type_is ∙ argument_type-keeps a b g.keeps (length a.terms) (omega arith) x l;
+      value = rw (← e, ← f) p.value;
       reduces = rw (← e, ← f) p.reduces;
       normal = rw (← e) p.normal;
     }
@@ -161,6 +171,7 @@ module _ (a c : Contents) (g : Grows a c) (t f x k s f' x' : ℕ) (v : HasView a
       record {
         within = m.within;
         type_is = m.type_is;
+        value = λ depth l. rw (m.reads, tree-app a g.old_sound t f x v) (put-app (put_within depth 0) k (tree_at a s) (tree_at a f) (tree_at a x) (tree_at c f') (tree_at c x') (p.value depth l) (q.value depth l) n);
         reduces = rw m.reads app_reduces;
         normal = rw (m.reads, tree-app a g.old_sound t f x v) (λ h. (n, y, rw e h.2));
         neutral = rw m.reads (λ _. inl (n, y, tt));
@@ -168,7 +179,7 @@ module _ (a c : Contents) (g : Grows a c) (t f x k s f' x' : ℕ) (v : HasView a
 
   -- a function that became a lambda is a normal term, of a type no larger than that of what was put in
   module _ (i b : ℕ) (h : HasView c f' (Lam i b)) where
-    put_lam : IsNormal (tree_at c f') × (type_number a f ≤ type_number a s)
+    put_lam : IsNormal (tree_at c f') × (type_number a f ≤ type_number a s) × (type_size (type_of (tree_at a f)) ≤ type_size (type_of (tree_at a s)))
     put_lam =
         elim (p.neutral app_ready.0) [
           | inl n ↦ absurd (rw (tree-lam c g.new_sound f' i b h) at n)
@@ -211,18 +222,35 @@ module _ (a c : Contents) (g : Grows a c) (t f x k s f' x' : ℕ) (v : HasView a
         let r : Reduces (opened k (tree_at a s) (tree_at a t)) (app (lam (type_at c i) (tree_at c b)) (tree_at c x')) = rw e at app_reduces in
         andthen _ _ _ r (beta (type_at c i) (tree_at c b) (tree_at c x') (bound-lam c g.new_sound f' i b h) w)
 
+    -- by the size of the types too
+    put_sizes : type_size (type_of (tree_at a f)) ≡ suc (type_size (type_of (tree_at c x')) + type_size (type_of (tree_at a t)))
+    put_sizes =
+        let u = view_sound a g.old_sound t (App f x) v in
+        let y = u.0.function_below in
+        let z = u.0.argument_below in
+        let w = u.1 in
+        let e : type_of (tree_at a f) ≡ arrow (type_at a (type_number a x)) (type_at a (type_number a t)) = type_of-tree a g.old_sound f (omega arith) ∙ ty-arrow a g.old_sound _ _ _ u.0.typed.arrow_node in
+        let i : type_of (tree_at c x') ≡ type_at a (type_number a x) = type_of-same a c g x x' (omega arith) q.within q.type_is ∙ type_of-tree a g.old_sound x (omega arith) in
+        let j : type_of (tree_at a t) ≡ type_at a (type_number a t) = type_of-tree a g.old_sound t (omega arith) in
+        rw (e, i, j) refl
+
     pub IsPut-redex : (d : Contents) (r : ℕ) → IsPut c d b 0 x' r → IsPut a d t k s r
     IsPut-redex d r m =
         let n : IsNormal (tree_at d r) = m.normal put_body-normal in
         let u = view_sound a g.old_sound t (App f x) v in
         let l = arrow-below a g.old_sound (type_number a f) (type_number a x) (type_number a t) u.0.typed in
         let o = put_lam.1 in
+        let y = put_lam.2 in
+        let z = put_sizes in
+        let j = type_size-positive (type_of (tree_at a t)) in
+        let e = tree-lam c g.new_sound f' i b h in
         record {
           within = m.within;
           type_is = m.type_is ∙ lam_types.1;
+          value = λ depth h. rw (tree-app a g.old_sound t f x v) (put-redex depth k (tree_at a s) (tree_at a f) (tree_at a x) (type_at c i) (tree_at c b) (tree_at c x') (tree_at d r) (omega arith) (sym e ∙ p.value depth h) (q.value depth h) m.value);
           reduces = andthen _ _ _ put_redex m.reduces;
           normal = λ _. n;
-          neutral = λ _. inr (n, omega arith);
+          neutral = λ _. inr (n, omega arith, omega arith);
         }
 
 -- under a lambda
@@ -236,6 +264,7 @@ IsPut-lam a b d g t i x k s x' r v p m =
     record {
       within = m.within;
       type_is = m.type_is;
+      value = λ depth l. rw (m.reads, e) (ap (lam (type_at a i)) (p.value depth l));
       reduces = rw (m.reads, e) (in_lam (type_at a i) _ _ p.reduces);
       normal = rw (m.reads, e) p.normal;
       neutral = rw e (λ h. absurd h);
@@ -247,6 +276,7 @@ IsPut-logic a c d g t o x y k s x' y' r v p q m =
     record {
       within = m.within;
       type_is = m.type_is;
+      value = λ depth l. rw (m.reads, e) (put-logic (put_within depth 0) k (tree_at a s) (connective a o) (argument (tree_at a) x) (argument (tree_at a) y) (argument (tree_at c) x') (argument (tree_at c) y') (p.value depth l) (q.value depth l));
       reduces = rw (m.reads, e) (in_logic (connective a o) _ _ _ _ p.reduces q.reduces);
       normal = rw (m.reads, e) (λ h. (p.normal h.0, q.normal h.1, h.2));
       neutral = rw (m.reads, e) (λ h. inl (p.normal h.0, q.normal h.1, tt));

@@ -15,4 +15,4 @@ contents_of b = record {
 
 pub record IsSoundInside (b : Inside) : Type 0 where
   pub sound : IsSound (contents_of b)
-  pub right : AreRight (contents_of b) b.lifts.entries b.puts.entries b.normals.entries
+  pub right : AreRight (contents_of b) b.lifts.entries b.puts.entries b.expansions.entries b.normals.entries

@@ -90,7 +90,7 @@ number_in None = 0
 number_in (Some n) = n.ty
 
 -- the number of a term's type
-abbrev pub type_number : Contents → ℕ → ℕ
+unfoldable pub type_number : Contents → ℕ → ℕ
 type_number c t = number_in (slice_get c.terms t)
 
 abbrev pub argument_type : Contents → Option ℕ → Option ℕ
@@ -174,6 +174,19 @@ IsSoundView c n (App f x) i = IsSoundApp c n f x i
 IsSoundView c n (Lam a t) i = IsSoundLam c n a t i
 IsSoundView c n (Logic o x y) i = IsSoundLogic c n o x y i
 
+-- the same of a lambda but for what its index is bound to, as public contracts say it
+pub record IsTypedLam (c : Contents) (n a t i : ℕ) : Type 0 where
+  pub body_below : t < n
+  pub typed : IsArrow c i a (type_number c t)
+
+abbrev pub IsTypedView : Contents → ℕ → View → ℕ → Type 0
+IsTypedView c n (Var v) i = Unit {0}
+IsTypedView c n (Bound b) i = Unit {0}
+IsTypedView c n (Sym s) i = IsSymbolOf c s i
+IsTypedView c n (App f x) i = IsSoundApp c n f x i
+IsTypedView c n (Lam a t) i = IsTypedLam c n a t i
+IsTypedView c n (Logic o x y) i = IsSoundLogic c n o x y i
+
 pub record IsSoundNode (c : Contents) (n : ℕ) (t : TermNode) : Type 0 where
   pub type_below : t.ty < length c.types
   pub view_sound : IsSoundView c n t.view t.ty
@@ -222,13 +235,43 @@ pub record Grows (old new : Contents) : Type 0 where
   pub bases : old.bases ≤ new.bases
   pub keeps : Keeps old new
 
+-- The same facts in the words of public contracts. Their parts are behind words that do not unfold by themselves, so that a
+-- search for a caller's proof does not go through all that they say; the lemmas for callers open them.
+
+unfoldable pub Soundness : Contents → Type 0
+Soundness c = IsSound c
+
+-- c is what a bank contains: every type and term is well formed and stands once
+pub record IsBank (c : Contents) : Type 0 where
+  pub soundness : Soundness c
+  pub base_types : 2 ≤ length c.types
+
+unfoldable pub Growth : Contents → Contents → Type 0
+Growth old new = Grows old new
+
+-- new is old with more types, symbols and terms at most: all earlier numbers keep their meaning
+pub record Extends (old new : Contents) : Type 0 where
+  pub growth : Growth old new
+  pub base_types : 2 ≤ length old.types
+  pub types_more : length old.types ≤ length new.types
+  pub symbols_more : length old.symbols ≤ length new.symbols
+  pub terms_more : length old.terms ≤ length new.terms
+
+unfoldable pub Addition : {X : Type 0} → List X → List X → X → ℕ → Type 0
+Addition old new x n = AddsShared old new x n
+
+-- x stands at place n of new and nowhere else, and new is old with x, which old may have had there
+pub record IsAdded {X : Type 0} (old new : List X) (x : X) (n : ℕ) : Type 0 where
+  pub stored : slice_get new n ≡ Some x
+  pub addition : Addition old new x n
+
 -- the number of what the functions of a type give
 abbrev pub codomain_in : Option TyView → ℕ
 codomain_in None = 0
 codomain_in (Some (Base n)) = 0
 codomain_in (Some (Arrow a b)) = b
 
-abbrev pub codomain_number : Contents → ℕ → ℕ
+unfoldable pub codomain_number : Contents → ℕ → ℕ
 codomain_number c i = codomain_in (slice_get c.types i)
 
 -- t is a term of the bank, whose type has number i and which reads as s
@@ -255,7 +298,7 @@ symbol_type_in None = 0
 symbol_type_in (Some s) = s.ty
 
 -- the number of a symbol's type
-abbrev pub symbol_type : Contents → ℕ → ℕ
+unfoldable pub symbol_type : Contents → ℕ → ℕ
 symbol_type c s = symbol_type_in (slice_get c.symbols s)
 
 -- f may be applied to x

@@ -4,6 +4,7 @@ pub mod SymbolView
 pub mod Memo
 pub mod BankView
 pub mod Reduction
+pub mod NormalForm
 pub mod Normal
 pub mod Typing
 pub mod Decode

@@ -4,7 +4,7 @@ use Rattle.leo_terms.specs.declared.memo.Lift.{Lift}
 use Rattle.leo_terms.specs.declared.memo.Put.{Put}
 use Rattle.leo_terms.specs.Tree.{lifted}
 use Rattle.leo_terms.specs.Contents.{Contents, IsTerm, tree_at, type_number}
-use Rattle.leo_terms.specs.Normal.{IsNormalFormOf, IsPut}
+use Rattle.leo_terms.specs.Normal.{IsNormalFormOf, IsExpansionOf, IsPut}
 
 -- every entry of the table meets the condition
 abbrev pub AllEntries : {K : Type 0} → (K → ℕ → Type 0) → List (K × ℕ) → Type 0
@@ -26,8 +26,14 @@ pub record IsNormalized (c : Contents) (t r : ℕ) : Type 0 where
   pub known : t < length c.terms
   pub made : IsNormalFormOf c c t r
 
+-- the term r is the eta-long form of t
+pub record IsExpanded (c : Contents) (t r : ℕ) : Type 0 where
+  pub known : t < length c.terms
+  pub made : IsExpansionOf c c t r
+
 -- all that is kept is right
-pub record AreRight (c : Contents) (lifts : List (Lift × ℕ)) (puts : List (Put × ℕ)) (normals : List (ℕ × ℕ)) : Type 0 where
+pub record AreRight (c : Contents) (lifts : List (Lift × ℕ)) (puts : List (Put × ℕ)) (expansions normals : List (ℕ × ℕ)) : Type 0 where
   pub lifts_right : AllEntries (IsLifted c) lifts
   pub puts_right : AllEntries (IsPutIn c) puts
+  pub expansions_right : AllEntries (IsExpanded c) expansions
   pub normals_right : AllEntries (IsNormalized c) normals

@@ -120,3 +120,11 @@ IsGiven given (app f x) = IsGiven given f × IsGiven given x
 IsGiven given (lam a t) = IsGiven given t
 IsGiven given (logic c x y) = IsGiven given x × IsGiven given y
 IsGiven given absent = Unit {0}
+
+-- the same two in the words of public contracts, which do not unfold by themselves: the term with all its loose indices raised,
+-- and the term with the given terms put in for its variables
+unfoldable pub raised : ℕ → Tree → Tree
+raised by t = lifted 0 by t
+
+unfoldable pub put_in : List Tree → Tree → Tree
+put_in given t = substituted given 0 t

@@ -2,11 +2,9 @@
 
 ghost use Rattle.std.specs.Prelude.{◌≡◌, ◌+◌, ◌-◌, ◌^◌, ◌<◌, ◌≤◌, ℕ, [], ◌∷◌, ◌++◌, length, slice_get, IfOk, OnOk, OnErr, IfErr, Some, None, true};
 ghost use Rattle.std.specs.List.{IsDistinct};
-ghost use Rattle.leo_q0.specs.Terms.{variable as q_variable, constant, apply, lambda};
-ghost use Rattle.leo_terms.specs.Decode.{named, connected, decoded};
 ghost use Rattle.leo_terms.specs.Tree.{variable, bound, symbol, app, lam, logic, IsBoundAt};
 ghost use Rattle.indexmap.specs.IndexSet.{insert_key};
-ghost use Rattle.leo_terms.specs.Contents.{Contents, AddsShared, connective, argument, IsSound, IsSoundNode, IsSoundType, Grows, IsArrow, IsTerm, IsApplicable, IsNewName, IsSoundView, AddsSymbol, Takes, HasTypeBelow, node, start, type_at, tree_at, view_tree, type_number, codomain_number, symbol_type, operator_type, argument_type};
+ghost use Rattle.leo_terms.specs.Contents.{Contents, AddsShared, IsAdded, IsBank, Extends, connective, argument, IsSound, IsSoundNode, IsSoundType, Grows, IsArrow, IsTerm, IsApplicable, IsNewName, IsSoundView, IsTypedView, AddsSymbol, Takes, HasTypeBelow, node, start, type_at, tree_at, view_tree, type_number, codomain_number, symbol_type, operator_type, argument_type};
 
 use crate::memo::{Lift, Put};
 use crate::node::{Op, SymId, TermId, TermNode, TyId, TyView, View};
@@ -31,6 +29,7 @@ pub struct Bank {
     pub(crate) terms: IndexSet<TermNode>,
     pub(crate) lifts: IndexMap<Lift, TermId>,
     pub(crate) puts: IndexMap<Put, TermId>,
+    pub(crate) expansions: IndexMap<TermId, TermId>,
     pub(crate) normals: IndexMap<TermId, TermId>,
 }
 
@@ -101,8 +100,7 @@ impl Bank {
 }
 
 impl Bank {
-    /// A bank with the base types `$o` and `$i` alone.
-    pub fn new(alloc: Global) -> Result<Bank, AllocError>
+    fn empty(alloc: Global) -> Result<Bank, AllocError>
         ensures { IfOk result (λ b. IsSound b × (b ≡ start)) }
     {
         let mut types = IndexSet::new(alloc);
@@ -115,12 +113,12 @@ impl Bank {
             terms: IndexSet::new(alloc),
             lifts: IndexMap::new(alloc),
             puts: IndexMap::new(alloc),
+            expansions: IndexMap::new(alloc),
             normals: IndexMap::new(alloc),
         })
     }
 
-    /// The next base type.
-    pub fn base(&mut self) -> Result<TyId, AllocError>
+    fn next_base(&mut self) -> Result<TyId, AllocError>
         requires { self.old.bases < 2 ^ 32 }
         ensures made { IfOk result (λ i. AddsShared self.old.types self.new.types (TyView.Base self.old.bases) i) }
         ensures counted { OnOk result (self.new.bases ≡ self.old.bases + 1) }
@@ -133,13 +131,99 @@ impl Bank {
         Ok(TyId::new(place))
     }
 
+    pub(crate) fn loose(&mut self, index: u32, ty: TyId) -> Result<TermId, AllocError>
+        requires { ty < length self.old.types }
+        ensures made { IfOk result (λ t. IsTerm self.new t ty (bound index (type_at self.old ty))) }
+        ensures grows { Grows self.old self.new }
+        ensures err { OnErr result (self.new ≡ self.old) }
+    {
+        self.numbered(View::Bound(index), ty)
+    }
+
+    fn lambda(&mut self, ty: TyId, body: TermId) -> Result<TermId, AllocError>
+        requires from { ty < length self.old.types }
+        requires body { body < length self.old.terms }
+        requires typed { IsBoundAt 0 (type_at self.old ty) (tree_at self.old body) }
+        ensures made { IfOk result (λ t. IsTerm self.new t (type_number self.new t) (lam (type_at self.old ty) (tree_at self.old body))) }
+        ensures arrow { IfOk result (λ t. IsArrow self.new (type_number self.new t) ty (type_number self.old body)) }
+        ensures added { IfOk result (λ t. AddsShared self.old.terms self.new.terms (node (View.Lam ty body) (type_number self.new t)) t) }
+        ensures grows { Grows self.old self.new }
+        ensures rest { self.new ≡ record self.old { types = self.new.types; terms = self.new.terms } }
+        ensures err { OnErr result (self.new ≡ record self.old { types = self.new.types }) }
+    {
+        let whole = self.type_numbered(TyView::Arrow(ty, self.ty_of(body)))?;
+        let t = self.numbered(View::Lam(ty, body), whole)?;
+        Ok(t)
+    }
+
+    fn named_symbol(&mut self, alloc: Global, name: &[u8], ty: TyId) -> Result<SymId, AllocError>
+        requires type_within { ty < length self.old.types }
+        requires new { IsNewName self.old name.now }
+        ensures made { IfOk result (AddsSymbol self.old self.new (record { name = Some name.now; ty = ty })) }
+        ensures grows { Grows self.old self.new }
+        ensures err { OnErr result (self.new ≡ self.old) }
+    {
+        let place = self.symbols.len();
+        let name = Some(name.to_vec(alloc)?);
+        self.symbols.push(Symbol { name, ty })?;
+        Ok(SymId::new(place))
+    }
+
+    fn unnamed_symbol(&mut self, ty: TyId) -> Result<SymId, AllocError>
+        requires { ty < length self.old.types }
+        ensures made { IfOk result (AddsSymbol self.old self.new (record { name = None; ty = ty })) }
+        ensures grows { Grows self.old self.new }
+        ensures err { OnErr result (self.new ≡ self.old) }
+    {
+        let place = self.symbols.len();
+        self.symbols.push(Symbol { name: None, ty })?;
+        Ok(SymId::new(place))
+    }
+}
+
+impl Bank {
+    /// A bank with the base types `$o` and `$i` alone.
+    pub fn new(alloc: Global) -> Result<Bank, AllocError>
+        ensures sound { IfOk result (λ b. IsBank b) }
+        ensures start { IfOk result (λ b. b ≡ start) }
+    {
+        Self::empty(alloc)
+    }
+
+    /// Every bank is sound: for callers that make no other call.
+    pub fn is_sound(&self)
+        ensures sound { IsBank self.now }
+    {
+        self.soundness();
+    }
+
+    fn soundness(&self)
+        ensures sound { IsSound self.now }
+    {
+        let _ = &self.terms;
+    }
+
+    /// The next base type.
+    pub fn base(&mut self) -> Result<TyId, AllocError>
+        requires { self.old.bases < 2 ^ 32 }
+        ensures made { IfOk result (λ i. IsAdded self.old.types self.new.types (TyView.Base self.old.bases) i) }
+        ensures counted { OnOk result (self.new.bases ≡ self.old.bases + 1) }
+        ensures within { IfOk result (λ i. i < length self.new.types) }
+        ensures grows { Extends self.old self.new }
+        ensures rest { self.new ≡ record self.old { bases = self.new.bases; types = self.new.types } }
+        ensures err { OnErr result (self.new ≡ self.old) }
+    {
+        self.next_base()
+    }
+
     /// The type of functions from `a` to `b`.
     pub fn arrow(&mut self, a: TyId, b: TyId) -> Result<TyId, AllocError>
         requires from { a < length self.old.types }
         requires to { b < length self.old.types }
         ensures made { IfOk result (λ i. IsArrow self.new i a b) }
-        ensures added { IfOk result (λ i. AddsShared self.old.types self.new.types (TyView.Arrow a b) i) }
-        ensures grows { Grows self.old self.new }
+        ensures added { IfOk result (λ i. IsAdded self.old.types self.new.types (TyView.Arrow a b) i) }
+        ensures within { IfOk result (λ i. i < length self.new.types) }
+        ensures grows { Extends self.old self.new }
         ensures rest { self.new ≡ record self.old { types = self.new.types } }
         ensures err { OnErr result (self.new ≡ self.old) }
     {
@@ -150,40 +234,36 @@ impl Bank {
     pub fn view_ty(&self, ty: TyId) -> TyView
         requires { ty < length self.now.types }
         ensures view { slice_get self.now.types ty ≡ Some result }
-        ensures sound { IsSound self.now }
+        ensures sound { IsBank self.now }
     {
-        match self.types.get_index(ty.index()) {
-            Some(node) => *node,
-            None => unreachable!(),
-        }
+        self.ty_node(ty)
     }
 
     /// What stands at the top of a term.
     pub fn view(&self, t: TermId) -> View
         requires { t < length self.now.terms }
         ensures view { slice_get self.now.terms t ≡ Some (node result (type_number self.now t)) }
-        ensures typed { IsSoundView self.now t result (type_number self.now t) }
-        ensures sound { IsSound self.now }
+        ensures typed { IsTypedView self.now t result (type_number self.now t) }
+        ensures sound { IsBank self.now }
     {
-        self.node(t).view
+        self.top(t)
     }
 
     /// A term's type.
     pub fn type_of(&self, t: TermId) -> TyId
         requires { t < length self.now.terms }
         ensures number { result ≡ type_number self.now t }
-        ensures sound { IsSound self.now }
+        ensures sound { IsBank self.now }
     {
-        self.node(t).ty
+        self.ty_of(t)
     }
 
     /// A variable.
     pub fn make_var(&mut self, number: u32, ty: TyId) -> Result<TermId, AllocError>
         requires { ty < length self.old.types }
         ensures made { IfOk result (λ t. IsTerm self.new t ty (variable number (type_at self.old ty))) }
-        ensures decodes { IfOk result (λ t. (next : ℕ) → decoded next (tree_at self.new t) ≡ q_variable (named number (type_at self.old ty))) }
-        ensures added { IfOk result (λ t. AddsShared self.old.terms self.new.terms (node (View.Var number) ty) t) }
-        ensures grows { Grows self.old self.new }
+        ensures added { IfOk result (λ t. IsAdded self.old.terms self.new.terms (node (View.Var number) ty) t) }
+        ensures grows { Extends self.old self.new }
         ensures rest { self.new ≡ record self.old { terms = self.new.terms } }
         ensures err { OnErr result (self.new ≡ self.old) }
     {
@@ -194,9 +274,8 @@ impl Bank {
     pub fn make_bound(&mut self, index: u32, ty: TyId) -> Result<TermId, AllocError>
         requires { ty < length self.old.types }
         ensures made { IfOk result (λ t. IsTerm self.new t ty (bound index (type_at self.old ty))) }
-        ensures decodes { IfOk result (λ t. (next : ℕ) → decoded next (tree_at self.new t) ≡ q_variable (named (next - (index + 1)) (type_at self.old ty))) }
-        ensures added { IfOk result (λ t. AddsShared self.old.terms self.new.terms (node (View.Bound index) ty) t) }
-        ensures grows { Grows self.old self.new }
+        ensures added { IfOk result (λ t. IsAdded self.old.terms self.new.terms (node (View.Bound index) ty) t) }
+        ensures grows { Extends self.old self.new }
         ensures rest { self.new ≡ record self.old { terms = self.new.terms } }
         ensures err { OnErr result (self.new ≡ self.old) }
     {
@@ -207,9 +286,8 @@ impl Bank {
     pub fn make_sym(&mut self, s: SymId) -> Result<TermId, AllocError>
         requires { s < length self.old.symbols }
         ensures made { IfOk result (λ t. IsTerm self.new t (symbol_type self.old s) (symbol s (type_at self.old (symbol_type self.old s)))) }
-        ensures decodes { IfOk result (λ t. (next : ℕ) → decoded next (tree_at self.new t) ≡ constant s (type_at self.old (symbol_type self.old s))) }
-        ensures added { IfOk result (λ t. AddsShared self.old.terms self.new.terms (node (View.Sym s) (symbol_type self.old s)) t) }
-        ensures grows { Grows self.old self.new }
+        ensures added { IfOk result (λ t. IsAdded self.old.terms self.new.terms (node (View.Sym s) (symbol_type self.old s)) t) }
+        ensures grows { Extends self.old self.new }
         ensures rest { self.new ≡ record self.old { terms = self.new.terms } }
         ensures err { OnErr result (self.new ≡ self.old) }
     {
@@ -223,13 +301,12 @@ impl Bank {
         requires argument { a < length self.old.terms }
         requires typed { IsApplicable self.old f a }
         ensures made { IfOk result (λ t. IsTerm self.new t (codomain_number self.old (type_number self.old f)) (app (tree_at self.old f) (tree_at self.old a))) }
-        ensures decodes { IfOk result (λ t. (next : ℕ) → decoded next (tree_at self.new t) ≡ apply (decoded next (tree_at self.old f)) (decoded next (tree_at self.old a))) }
-        ensures added { IfOk result (λ t. AddsShared self.old.terms self.new.terms (node (View.App f a) (codomain_number self.old (type_number self.old f))) t) }
-        ensures grows { Grows self.old self.new }
+        ensures added { IfOk result (λ t. IsAdded self.old.terms self.new.terms (node (View.App f a) (codomain_number self.old (type_number self.old f))) t) }
+        ensures grows { Extends self.old self.new }
         ensures rest { self.new ≡ record self.old { terms = self.new.terms } }
         ensures err { OnErr result (self.new ≡ self.old) }
     {
-        match self.view_ty(self.type_of(f)) {
+        match self.ty_node(self.ty_of(f)) {
             TyView::Arrow(_, ty) => self.numbered(View::App(f, a), ty),
             TyView::Base(_) => unreachable!(),
         }
@@ -242,13 +319,12 @@ impl Bank {
         requires typed { IsBoundAt 0 (type_at self.old ty) (tree_at self.old body) }
         ensures made { IfOk result (λ t. IsTerm self.new t (type_number self.new t) (lam (type_at self.old ty) (tree_at self.old body))) }
         ensures arrow { IfOk result (λ t. IsArrow self.new (type_number self.new t) ty (type_number self.old body)) }
-        ensures decodes { IfOk result (λ t. (next : ℕ) → decoded next (tree_at self.new t) ≡ lambda (named next (type_at self.old ty)) (decoded (next + 1) (tree_at self.old body))) }
-        ensures added { IfOk result (λ t. AddsShared self.old.terms self.new.terms (node (View.Lam ty body) (type_number self.new t)) t) }
-        ensures grows { Grows self.old self.new }
+        ensures added { IfOk result (λ t. IsAdded self.old.terms self.new.terms (node (View.Lam ty body) (type_number self.new t)) t) }
+        ensures grows { Extends self.old self.new }
+        ensures rest { self.new ≡ record self.old { types = self.new.types; terms = self.new.terms } }
+        ensures err { OnErr result (self.new ≡ record self.old { types = self.new.types }) }
     {
-        let whole = self.arrow(ty, self.type_of(body))?;
-        let t = self.numbered(View::Lam(ty, body), whole)?;
-        Ok(t)
+        self.lambda(ty, body)
     }
 
     /// A logical constant with all its arguments.
@@ -258,9 +334,8 @@ impl Bank {
         requires type_within { HasTypeBelow (length self.old.types) op }
         requires typed { Takes self.old op (argument_type self.old (slice_get args.now 0)) (argument_type self.old (slice_get args.now 1)) (operator_type op) }
         ensures made { IfOk result (λ t. IsTerm self.new t (operator_type op) (logic (connective self.old op) (argument (tree_at self.old) (slice_get args.now 0)) (argument (tree_at self.old) (slice_get args.now 1)))) }
-        ensures decodes { IfOk result (λ t. (next : ℕ) → decoded next (tree_at self.new t) ≡ connected (connective self.old op) (decoded next (argument (tree_at self.old) (slice_get args.now 0))) (decoded next (argument (tree_at self.old) (slice_get args.now 1)))) }
-        ensures added { IfOk result (λ t. AddsShared self.old.terms self.new.terms (node (View.Logic op (slice_get args.now 0) (slice_get args.now 1)) (operator_type op)) t) }
-        ensures grows { Grows self.old self.new }
+        ensures added { IfOk result (λ t. IsAdded self.old.terms self.new.terms (node (View.Logic op (slice_get args.now 0) (slice_get args.now 1)) (operator_type op)) t) }
+        ensures grows { Extends self.old self.new }
         ensures rest { self.new ≡ record self.old { terms = self.new.terms } }
         ensures err { OnErr result (self.new ≡ self.old) }
     {
@@ -276,28 +351,61 @@ impl Bank {
         requires type_within { ty < length self.old.types }
         requires new { IsNewName self.old name.now }
         ensures made { IfOk result (AddsSymbol self.old self.new (record { name = Some name.now; ty = ty })) }
-        ensures grows { Grows self.old self.new }
+        ensures within { IfOk result (λ s. s < length self.new.symbols) }
+        ensures typed { IfOk result (λ s. symbol_type self.new s ≡ ty) }
+        ensures grows { Extends self.old self.new }
         ensures err { OnErr result (self.new ≡ self.old) }
     {
-        let place = self.symbols.len();
-        let name = Some(name.to_vec(alloc)?);
-        self.symbols.push(Symbol { name, ty })?;
-        Ok(SymId::new(place))
+        self.named_symbol(alloc, name, ty)
     }
 
     /// A symbol without a name, which no term has yet.
     pub fn fresh(&mut self, ty: TyId) -> Result<SymId, AllocError>
         requires { ty < length self.old.types }
         ensures made { IfOk result (AddsSymbol self.old self.new (record { name = None; ty = ty })) }
-        ensures grows { Grows self.old self.new }
+        ensures within { IfOk result (λ s. s < length self.new.symbols) }
+        ensures typed { IfOk result (λ s. symbol_type self.new s ≡ ty) }
+        ensures grows { Extends self.old self.new }
         ensures err { OnErr result (self.new ≡ self.old) }
     {
-        let place = self.symbols.len();
-        self.symbols.push(Symbol { name: None, ty })?;
-        Ok(SymId::new(place))
+        self.unnamed_symbol(ty)
+    }
+
+    /// A type's node, as `view_ty` gives it.
+    pub(crate) fn ty_node(&self, ty: TyId) -> TyView
+        requires { ty < length self.now.types }
+        ensures view { slice_get self.now.types ty ≡ Some result }
+        ensures sound { IsSound self.now }
+    {
+        match self.types.get_index(ty.index()) {
+            Some(node) => *node,
+            None => unreachable!(),
+        }
+    }
+
+    /// What stands at the top of a term, as `view` gives it.
+    #[tactic(auto, unfolding(crate::specs::Contents::type_number))]
+    pub(crate) fn top(&self, t: TermId) -> View
+        requires { t < length self.now.terms }
+        ensures view { slice_get self.now.terms t ≡ Some (node result (type_number self.now t)) }
+        ensures typed { IsSoundView self.now t result (type_number self.now t) }
+        ensures sound { IsSound self.now }
+    {
+        self.node(t).view
+    }
+
+    /// A term's type, as `type_of` gives it.
+    #[tactic(auto, unfolding(crate::specs::Contents::type_number))]
+    pub(crate) fn ty_of(&self, t: TermId) -> TyId
+        requires { t < length self.now.terms }
+        ensures number { result ≡ type_number self.now t }
+        ensures sound { IsSound self.now }
+    {
+        self.node(t).ty
     }
 
     /// A symbol's type.
+    #[tactic(auto, unfolding(crate::specs::Contents::symbol_type))]
     fn symbol_ty(&self, s: SymId) -> TyId
         requires { s < length self.now.symbols }
         ensures number { result ≡ symbol_type self.now s }

@@ -1,7 +1,7 @@
 //! Copies of banks.
 
 ghost use Rattle.std.specs.Prelude.{◌≡◌, ◌<◌, ℕ, true, IfOk, Some, length, map, slice_get};
-ghost use Rattle.leo_terms.specs.Contents.{IsSound};
+ghost use Rattle.leo_terms.specs.Contents.{IsBank, IsSound};
 ghost use Rattle.leo_terms.specs.SymbolView.{symbol_of};
 
 use crate::bank::{Bank, Symbol};
@@ -63,6 +63,13 @@ impl Bank {
     /// A bank with the same types, symbols and terms under the same numbers.
     pub fn copy(&self, alloc: Global) -> Result<Bank, AllocError>
         ensures equal { IfOk result (λ b. b ≡ self.now) }
+        ensures sound { IsBank self.now }
+    {
+        self.copied_bank(alloc)
+    }
+
+    fn copied_bank(&self, alloc: Global) -> Result<Bank, AllocError>
+        ensures equal { IfOk result (λ b. b ≡ self.now) }
         ensures sound { IsSound self.now }
     {
         Ok(Bank {
@@ -72,6 +79,7 @@ impl Bank {
             terms: copied(alloc, &self.terms)?,
             lifts: IndexMap::new(alloc),
             puts: IndexMap::new(alloc),
+            expansions: IndexMap::new(alloc),
             normals: IndexMap::new(alloc),
         })
     }

@@ -1,6 +1,6 @@
 //! Laws of banks, each the contract of a function that does nothing.
 
-ghost use Rattle.leo_terms.specs.Laws.{TypesAreKept, TermsAreKept, TypesAreShared, TermsAreShared, TermsAreTyped, TypesAreThoseOfTrees, LiftingDecodes, SubstitutionDecodes};
+ghost use Rattle.leo_terms.specs.Laws.{TypesAreKept, TermsAreKept, TypesAreShared, TermsAreShared, TermsAreTyped, TypesAreThoseOfTrees, MadeTermsDecode, LiftingDecodes, SubstitutionDecodes, NormalFormsAreEqual, TermsReduceToNormalForms, NormalTermsStay};
 
 /// A bank that only grew reads all earlier numbers alike.
 pub fn growth_laws()
@@ -20,8 +20,16 @@ pub fn typing_laws()
     ensures types { TypesAreThoseOfTrees }
 {}
 
-/// Lifting and substitution are those of Q0, up to the names of bound variables.
+/// A term that was made decodes as its tree, and lifting and substitution are those of Q0, up to the names of bound variables.
 pub fn decoding_laws()
+    ensures making { MadeTermsDecode }
     ensures lifting { LiftingDecodes }
     ensures substitution { SubstitutionDecodes }
+{}
+
+/// A term reduces to its normal form, which is normal and equal to it in Q0; a normal term is its own.
+pub fn normal_form_laws()
+    ensures equal { NormalFormsAreEqual }
+    ensures reduces { TermsReduceToNormalForms }
+    ensures stays { NormalTermsStay }
 {}

@@ -1,8 +1,8 @@
 //! Raising loose indices.
 
 ghost use Rattle.std.specs.Prelude.{◌≡◌, ◌+◌, ◌^◌, ◌<◌, ◌≤◌, ℕ, length, slice_get, IfOk, OnOk, OnErr, IfErr, Some, None, true};
-ghost use Rattle.leo_terms.specs.Tree.{lifted};
-ghost use Rattle.leo_terms.specs.Contents.{IsSound, Grows, IsTerm, IsArgumentBelow, IsArgumentTerm, argument, argument_type, type_number, tree_at};
+ghost use Rattle.leo_terms.specs.Tree.{lifted, raised};
+ghost use Rattle.leo_terms.specs.Contents.{IsSound, Extends, Grows, IsTerm, IsArgumentBelow, IsArgumentTerm, argument, argument_type, type_number, tree_at};
 
 use crate::bank::Bank;
 use crate::memo::{DEPTH, deeper};
@@ -13,12 +13,11 @@ impl Bank {
     /// The term with its loose indices raised by `by`. An index that does not fit is want of memory.
     pub fn lift(&mut self, t: TermId, by: u32) -> Result<TermId, AllocError>
         requires { t < length self.old.terms }
-        ensures made { IfOk result (λ r. IsTerm self.new r (type_number self.old t) (lifted 0 by (tree_at self.old t))) }
-        ensures grows { Grows self.old self.new }
+        ensures made { IfOk result (λ r. IsTerm self.new r (type_number self.old t) (raised by (tree_at self.old t))) }
+        ensures grows { Extends self.old self.new }
     {
         self.forget();
-        let r = self.lift_from(t, 0, by, DEPTH)?;
-        Ok(r)
+        self.lift_from(t, 0, by, DEPTH)
     }
 
     /// The term with its indices from `from` on raised by `by`, going at most `room` levels down.
@@ -55,8 +54,8 @@ impl Bank {
         ensures made { IfOk result (λ r. IsTerm self.new r (type_number self.old t) (lifted from by (tree_at self.old t))) }
         ensures grows { Grows self.old self.new }
     {
-        let ty = self.type_of(t);
-        match self.view(t) {
+        let ty = self.ty_of(t);
+        match self.top(t) {
             View::Var(_) => Ok(t),
             View::Sym(_) => Ok(t),
             View::Bound(index) => {

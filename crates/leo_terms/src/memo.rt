@@ -2,7 +2,7 @@
 
 ghost use Rattle.std.specs.Prelude.{◌≡◌, ◌+◌, ◌<◌, ◌⊎◌, ℕ, [], length, slice_get, IfOk, IfSome, OnOk, OnErr, Some, true};
 ghost use Rattle.leo_terms.specs.Tree.{lifted};
-ghost use Rattle.leo_terms.specs.Normal.{IsNormalFormOf, IsPut};
+ghost use Rattle.leo_terms.specs.Normal.{IsNormalFormOf, IsExpansionOf, IsPut};
 ghost use Rattle.leo_terms.specs.Contents.{Grows, IsSound, IsTerm, tree_at, type_number};
 
 use crate::bank::Bank;
@@ -122,6 +122,22 @@ impl Bank {
         keep(&mut self.puts, Put { term, index, put }, r)
     }
 
+    pub(crate) fn known_expansion(&self, term: TermId) -> Option<TermId>
+        ensures made { IfSome result (λ r. IsExpansionOf self.now self.now term r) }
+        ensures sound { IsSound self.now }
+    {
+        find(&self.expansions, &term)
+    }
+
+    pub(crate) fn keep_expansion(&mut self, term: TermId, r: TermId) -> Result<(), AllocError>
+        requires within { term < length self.old.terms }
+        requires made { IsExpansionOf self.old self.old term r }
+        ensures same { self.new ≡ self.old }
+        ensures grows { Grows self.old self.new }
+    {
+        keep(&mut self.expansions, term, r)
+    }
+
     pub(crate) fn known_normal(&self, term: TermId) -> Option<TermId>
         ensures made { IfSome result (λ r. IsNormalFormOf self.now self.now term r) }
         ensures sound { IsSound self.now }
@@ -145,5 +161,6 @@ impl Bank {
     {
         shorten(&mut self.lifts);
         shorten(&mut self.puts);
+        shorten(&mut self.expansions);
     }
 }

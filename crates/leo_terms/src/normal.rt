@@ -1,13 +1,10 @@
 //! The beta-normal, eta-long form, by putting normal terms into normal terms and reducing at once.
 
 ghost use Rattle.std.specs.Prelude.{[], ◌≡◌, ◌+◌, ◌^◌, ◌<◌, ◌≤◌, ◌⊎◌, ℕ, length, slice_get, IfOk, OnOk, OnErr, IfErr, Some, None, true};
-ghost use Rattle.leo_q0.specs.Connectives.{equation};
-ghost use Rattle.leo_q0.specs.Derivations.{Derives};
-ghost use Rattle.leo_terms.specs.Decode.{decoded, IsFitting};
 ghost use Rattle.leo_terms.specs.Tree.{IsBoundAt};
 ghost use Rattle.leo_terms.specs.Reduction.{IsNormal, IsNeutral};
-ghost use Rattle.leo_terms.specs.Normal.{IsNormalFormOf, IsNormalArgumentOf, IsPut, IsPutArgument};
-ghost use Rattle.leo_terms.specs.Contents.{IsSound, Grows, IsArgumentBelow, argument, type_at, type_number, tree_at};
+ghost use Rattle.leo_terms.specs.Normal.{HasNormalForm, IsNormalFormOf, IsExpansionOf, IsNormalArgumentOf, IsPut, IsPutArgument};
+ghost use Rattle.leo_terms.specs.Contents.{IsSound, Extends, Grows, IsArgumentBelow, argument, type_at, type_number, tree_at};
 
 use crate::bank::Bank;
 use crate::memo::{DEPTH, deeper};
@@ -52,8 +49,8 @@ impl Bank {
         ensures made { IfOk result (IsPut self.old self.new t k s) }
         ensures grows { Grows self.old self.new }
     {
-        let ty = self.type_of(t);
-        match self.view(t) {
+        let ty = self.ty_of(t);
+        match self.top(t) {
             View::Var(_) => Ok(t),
             View::Sym(_) => Ok(t),
             View::Bound(index) => {
@@ -71,7 +68,7 @@ impl Bank {
             View::App(f, a) => {
                 let f = self.put(f, k, s, room)?;
                 let a = self.put(a, k, s, room)?;
-                match self.view(f) {
+                match self.top(f) {
                     View::Lam(_, body) => {
                         let r = self.put(body, 0, a, room)?;
                         Ok(r)
@@ -128,16 +125,16 @@ impl Bank {
     fn expand(&mut self, t: TermId, room: u32) -> Result<TermId, AllocError>
         requires within { t < length self.old.terms }
         requires form { IsNeutral (tree_at self.old t) }
-        ensures made { IfOk result (IsNormalFormOf self.old self.new t) }
+        ensures made { IfOk result (IsExpansionOf self.old self.new t) }
         ensures grows { Grows self.old self.new }
     {
         let _ = &self.terms;
         let room = deeper(room)?;
-        match self.known_normal(t) {
+        match self.known_expansion(t) {
             Some(r) => Ok(r),
             None => {
                 let r = self.expand_parts(t, room)?;
-                self.keep_normal(t, r)?;
+                self.keep_expansion(t, r)?;
                 Ok(r)
             }
         }
@@ -147,15 +144,15 @@ impl Bank {
     fn expand_parts(&mut self, t: TermId, room: u32) -> Result<TermId, AllocError>
         requires within { t < length self.old.terms }
         requires form { IsNeutral (tree_at self.old t) }
-        ensures made { IfOk result (IsNormalFormOf self.old self.new t) }
+        ensures made { IfOk result (IsExpansionOf self.old self.new t) }
         ensures grows { Grows self.old self.new }
     {
-        let ty = self.type_of(t);
-        match self.view_ty(ty) {
+        let ty = self.ty_of(t);
+        match self.ty_node(ty) {
             TyView::Base(_) => Ok(t),
             TyView::Arrow(a, b) => {
                 let raised = self.lift_from(t, 0, 1, room)?;
-                let x = self.make_bound(0, a)?;
+                let x = self.loose(0, a)?;
                 let x = self.expand(x, room)?;
                 let body = self.numbered(View::App(raised, x), b)?;
                 let body = self.expand(body, room)?;
@@ -165,19 +162,14 @@ impl Bank {
         }
     }
 
-    /// The beta-normal, eta-long form of a term, which is equal to it by a derivation in Q0 from no hypotheses,
-    /// whatever numbers from `first` on the bound variables get.
+    /// The beta-normal, eta-long form of a term. The law of normal forms says that it is equal to the term by a derivation in Q0.
     pub fn normal(&mut self, t: TermId) -> Result<TermId, AllocError>
         requires { t < length self.old.terms }
-        ensures made { IfOk result (λ r. IsNormalFormOf self.old self.new t r) }
-        ensures equal { IfOk result (λ r. (first next : ℕ) → first ≤ next → IsFitting first next (tree_at self.old t) →
-            Derives [] (equation (type_at self.old (type_number self.old t))
-            (decoded next (tree_at self.old t)) (decoded next (tree_at self.new r)))) }
-        ensures grows { Grows self.old self.new }
+        ensures made { IfOk result (HasNormalForm self.old self.new t) }
+        ensures grows { Extends self.old self.new }
     {
         self.forget();
-        let r = self.normalize(t, DEPTH)?;
-        Ok(r)
+        self.normalize(t, DEPTH)
     }
 
     /// The same, going at most `room` levels down.
@@ -205,15 +197,24 @@ impl Bank {
         ensures made { IfOk result (IsNormalFormOf self.old self.new t) }
         ensures grows { Grows self.old self.new }
     {
-        let ty = self.type_of(t);
-        match self.view(t) {
-            View::Var(_) => self.expand(t, room),
-            View::Sym(_) => self.expand(t, room),
-            View::Bound(_) => self.expand(t, room),
+        let ty = self.ty_of(t);
+        match self.top(t) {
+            View::Var(_) => {
+                let r = self.expand(t, room)?;
+                Ok(r)
+            }
+            View::Sym(_) => {
+                let r = self.expand(t, room)?;
+                Ok(r)
+            }
+            View::Bound(_) => {
+                let r = self.expand(t, room)?;
+                Ok(r)
+            }
             View::App(f, a) => {
                 let f = self.normalize(f, room)?;
                 let a = self.normalize(a, room)?;
-                match self.view(f) {
+                match self.top(f) {
                     View::Lam(_, body) => {
                         let r = self.put(body, 0, a, room)?;
                         Ok(r)

@@ -1,8 +1,8 @@
 //! Putting terms in for variables.
 
 ghost use Rattle.std.specs.Prelude.{◌≡◌, ◌+◌, ◌^◌, ◌<◌, ◌≤◌, ℕ, length, slice_get, map, IfOk, Some};
-ghost use Rattle.leo_terms.specs.Tree.{substituted, IsGiven};
-ghost use Rattle.leo_terms.specs.Contents.{Grows, IsTerm, IsArgumentBelow, IsArgumentTerm, AreTerms, argument, argument_type, type_number, tree_at};
+ghost use Rattle.leo_terms.specs.Tree.{substituted, put_in, IsGiven};
+ghost use Rattle.leo_terms.specs.Contents.{Extends, Grows, IsTerm, IsArgumentBelow, IsArgumentTerm, AreTerms, argument, argument_type, type_number, tree_at};
 
 use crate::bank::Bank;
 use crate::memo::{DEPTH, deeper};
@@ -15,8 +15,8 @@ impl Bank {
         requires within { t < length self.old.terms }
         requires terms { AreTerms self.old sigma.now }
         requires given { IsGiven (map (tree_at self.old) sigma.now) (tree_at self.old t) }
-        ensures made { IfOk result (λ r. IsTerm self.new r (type_number self.old t) (substituted (map (tree_at self.old) sigma.now) 0 (tree_at self.old t))) }
-        ensures grows { Grows self.old self.new }
+        ensures made { IfOk result (λ r. IsTerm self.new r (type_number self.old t) (put_in (map (tree_at self.old) sigma.now) (tree_at self.old t))) }
+        ensures grows { Extends self.old self.new }
     {
         self.subst_under(t, 0, sigma, DEPTH)
     }
@@ -39,8 +39,8 @@ impl Bank {
     {
         let _ = &self.terms;
         let room = deeper(room)?;
-        let ty = self.type_of(t);
-        match self.view(t) {
+        let ty = self.ty_of(t);
+        match self.top(t) {
             View::Var(number) => {
                 let s = sigma[number as usize];
                 let Ok(by) = u32::try_from(k) else {

@@ -19,7 +19,7 @@ pub invariant_of-self-2 : goal.invariant_of-self-2
 invariant_of-self-2 c =
     let at = (goal.at.invariant_of-self-2 c).In_ok-place in
     let g = grows_inside at in
-    record { sound = g.new_sound; right = AreRight-grows _ _ g _ _ _ at.self.invariant.right }
+    record { sound = g.new_sound; right = AreRight-grows _ _ g _ _ _ _ at.self.invariant.right }
 
 pub returns-clause-grows : goal.returns-clause-grows
 returns-clause-grows c = rw (← c.self.view_is) (grows_inside (goal.at.returns-clause-grows c).In_ok-place)
