@@ -1,0 +1,5 @@
+pub mod Seen
+pub mod Same
+pub mod Renumbered
+pub mod Meeting
+pub mod Renaming

@@ -1,0 +1,6 @@
+pub mod Trees
+pub mod Typed
+pub mod Sameness
+pub mod Arranging
+pub mod Weights
+pub mod Formulas
