@@ -62,20 +62,6 @@ mutual
         | inr r ↦ (let w = occurs_in_any-apply s u ts r in (w.0, or_right (occurs w.0 t) (occurs_in_any w.0 ts) w.1, w.2))
       ]
 
--- and each variable of the term brings its own in
-mutual
-  pub apply-occurs : (s : Substitution) (u v : ℕ) (t : Term) → occurs v t ≡ true → occurs u (s v) ≡ true → occurs u (apply s t) ≡ true
-  apply-occurs s u v (variable w) h k = let e : v ≡ w = search rules in rw e at k
-  apply-occurs s u v (symbol f ts) h k = apply_to_all-occurs s u v ts h k
-
-  pub apply_to_all-occurs : (s : Substitution) (u v : ℕ) (ts : Terms) → occurs_in_any v ts ≡ true → occurs u (s v) ≡ true → occurs_in_any u (apply_to_all s ts) ≡ true
-  apply_to_all-occurs s u v none h k = absurd cc
-  apply_to_all-occurs s u v (more t ts) h k =
-      elim (or_true (occurs v t) (occurs_in_any v ts) h) [
-        | inl l ↦ or_left (occurs u (apply s t)) (occurs_in_any u (apply_to_all s ts)) (apply-occurs s u v t l k)
-        | inr r ↦ or_right (occurs u (apply s t)) (occurs_in_any u (apply_to_all s ts)) (apply_to_all-occurs s u v ts r k)
-      ]
-
 -- what is put in for a variable is no larger than the whole
 mutual
   pub size-occurs : (s : Substitution) (v : ℕ) (t : Term) → occurs v t ≡ true → size (s v) ≤ size (apply s t)

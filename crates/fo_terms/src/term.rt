@@ -1,11 +1,12 @@
 //! Terms as lists of nodes.
 
-ghost use Rattle.std.specs.Prelude.{◌≡◌, ◌↔◌, ◌+◌, ◌<◌, ◌≤◌, ◌^◌, IfSome, IfNone, IsTrue, MatchOption};
+ghost use Rattle.std.specs.Prelude.{◌≡◌, ◌↔◌, ◌+◌, ◌<◌, ◌≤◌, ◌^◌, IfSome, IfNone, IfOk, IsTrue, MatchOption};
 ghost use Rattle.fo_terms.specs.Terms.{Term};
 ghost use Rattle.fo_terms.specs.Prefix.{prefix, IsPrefix};
 ghost use Rattle.fo_terms.specs.Places.{arguments_of};
 
 use crate::places::node_at;
+use std::alloc::{AllocError, Global};
 use std::marker::Model;
 
 /// A node of a term: a variable by its number, or a symbol by its number with the count of its
@@ -60,6 +61,14 @@ impl FoTerm {
         ensures { result.now ≡ prefix self.now }
     {
         self.nodes.as_slice()
+    }
+
+    /// A copy. The only error is want of memory.
+    pub fn try_clone(&self, alloc: Global) -> Result<FoTerm, AllocError>
+        ensures { IfOk result (λ t. t ≡ self.now) }
+    {
+        let nodes = Vec::from_slice(alloc, self.nodes.as_slice())?;
+        Ok(FoTerm { nodes })
     }
 }
 

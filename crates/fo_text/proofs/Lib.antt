@@ -1,0 +1,13 @@
+pub mod Lists
+pub mod Composing
+pub mod Digits
+pub mod NumberWords
+pub mod Keywords
+pub mod SymbolLines
+pub mod NodeLists
+pub mod Searching
+pub mod TermReading
+pub mod LiteralReading
+pub mod ClauseReading
+pub mod KnownSorts
+pub mod ProblemReading

@@ -1,0 +1,14 @@
+pub mod Words
+pub mod Problems
+pub mod Spellings
+pub mod Refusals
+pub mod Numbers
+pub mod Reads
+pub mod Pieces
+pub mod Nodes
+pub mod Searches
+pub mod Terms
+pub mod Literals
+pub mod Clauses
+pub mod Known
+pub mod Texts
