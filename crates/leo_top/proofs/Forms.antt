@@ -1,18 +1,16 @@
--- A text is of the first form exactly where it is read, each atom is declared, and there is one conjecture at most.
-use Rattle.std.proofs.Common.{◌≡◌, ℕ, ◌≤◌, Bool, true, ◌&&◌, List, length, get_or, Some, None, refl, sym, ap, ◌∙◌, arith}
-use Rattle.std.specs.List.{Contains, list_all, count_by}
+-- The statements are of the first form exactly where the tests pass.
+use Rattle.std.proofs.Common.{◌≡◌, inl, inr, ℕ, ◌+◌, ◌<◌, ◌≤◌, Bool, true, false, ◌||◌, List, [], ◌∷◌, ◌++◌, append_assoc, drop, length, get_or, Option, Some, None, refl, sym, ap, subst, ◌∙◌}
+use Rattle.std.specs.List.{Contains, cons_option, filter_map, list_all, list_any, count_by}
 use Rattle.std.specs.Str.{bytes_eq}
 use Rattle.std.proofs.lemmas.Bool.{false≢true}
+use Rattle.std.proofs.lemmas.List.{at_drop_more}
 use Rattle.std.proofs.lemmas.List.Elements.{All-contains, Contains-get_or}
 use Rattle.std.proofs.lemmas.List.Sums.{AllPass-from_list_all, list_all-from_AllPass}
-use Rattle.std.proofs.lemmas.List.Folds.{Any-from_list_any, list_any-from_Any}
 use Rattle.std.proofs.lemmas.Slice.Eq.{bytes_eq-Decides}
-use Rattle.leo_top.specs.declared.statement.Role.{Role}
-use Rattle.leo_top.specs.declared.statement.Role.TheVariants.{Typing, Axiom, Conjecture}
-use Rattle.leo_top.specs.Form.{Statement, is_lower, is_typing, is_conjecture, IsDeclared, IsFirstForm}
-use Rattle.leo_top.specs.Reader.{unspaced, statements_at, is_declared, all_declared}
-use Rattle.leo_top.proofs.Deciding.{both}
-use Rattle.leo_top.proofs.Spelled.{statements_spell, statements_found}
+use Rattle.leo_syntax.specs.declared.tree.Statement.{Statement}
+use Rattle.leo_top.specs.Problem.{Hypothesis, declared_atom, hypothesis_of, is_part, atoms, hypotheses, is_conjecture, IsFirstForm}
+use Rattle.leo_top.specs.Checks.{is_that, declares, is_declared, all_declared, all_parts}
+use Rattle.leo_top.proofs.Among.{Among, among, contained}
 
 each : {X : Type 0} (test : X → Bool) (xs : List X) → list_all test xs ≡ true → (x : X) → Contains xs x → test x ≡ true
 each test xs e x c = All-contains (λ y. test y ≡ true) xs x (AllPass-from_list_all test xs e) c
@@ -20,63 +18,69 @@ each test xs e x c = All-contains (λ y. test y ≡ true) xs x (AllPass-from_lis
 from_each : {X : Type 0} (test : X → Bool) (xs : List X) → ((x : X) → Contains xs x → test x ≡ true) → list_all test xs ≡ true
 from_each test xs h = list_all-from_AllPass test xs (λ k d lt. h (get_or xs k d) (Contains-get_or xs k d lt))
 
-typing_is : (r : Role) → is_typing r ≡ true → r ≡ Typing
-typing_is Typing e = refl
-typing_is Axiom e = absurd (false≢true e)
-typing_is Conjecture e = absurd (false≢true e)
+-- one statement more, which declares that atom or none
+more_declared : (o : Option (List ℕ)) (a : List ℕ) (rest : Bool) (others : List (List ℕ)) → (rest ≡ true → Among others a) →
+    (is_that o a || rest) ≡ true → Among (cons_option o others) a
+more_declared None a rest others f e = f e
+more_declared (Some x) a rest others f e = go (bytes_eq x a) refl where
+  go : (b : Bool) → bytes_eq x a ≡ b → Among (x ∷ others) a
+  go true k = inl ((bytes_eq-Decides x a).0 k)
+  go false k = inr (f (rw k at e))
 
-declared_is : (ss : List Statement) (atom : List ℕ) → is_declared ss atom ≡ true → IsDeclared ss atom
-unfolding is_declared
-declared_is ss atom e =
-    let a = Any-from_list_any (λ s. is_typing s.role && bytes_eq s.atom atom) ss e in
-    let h = both (is_typing a.1.role) (bytes_eq a.1.atom atom) a.4 in
-    (a.1, (a.0, a.2, a.3), typing_is a.1.role h.0, (bytes_eq-Decides a.1.atom atom).0 h.1)
+fewer_declared : (o : Option (List ℕ)) (a : List ℕ) (rest : Bool) (others : List (List ℕ)) → (Among others a → rest ≡ true) →
+    Among (cons_option o others) a → (is_that o a || rest) ≡ true
+fewer_declared None a rest others f m = f m
+fewer_declared (Some x) a rest others f (inl e) = let k = (bytes_eq-Decides x a).1 e in rw k refl
+fewer_declared (Some x) a rest others f (inr m) = go (bytes_eq x a) (f m) where
+  go : (b : Bool) → rest ≡ true → (b || rest) ≡ true
+  go true k = refl
+  go false k = k
 
-is_declared_so : (ss : List Statement) (atom : List ℕ) → IsDeclared ss atom → is_declared ss atom ≡ true
-unfolding is_declared
-is_declared_so ss atom d =
-    let same = (bytes_eq-Decides d.0.atom atom).1 d.3 in
-    let t : is_typing d.0.role ≡ true = ap is_typing d.2 in
-    list_any-from_Any (λ s. is_typing s.role && bytes_eq s.atom atom) ss (d.1.0, d.0, d.1.1, d.1.2, rw (t, same) refl)
+declared_among : (ss : List Statement) (a : List ℕ) → list_any (declares a) ss ≡ true → Among (filter_map declared_atom ss) a
+unfolding declares
+declared_among [] a e = absurd (false≢true e)
+declared_among (s ∷ ss) a e = more_declared (declared_atom s) a (list_any (declares a) ss) (filter_map declared_atom ss) (declared_among ss a) e
 
-pub form_from_reading : (text : List ℕ) (ss : List Statement) → length text ≤ 16777216 → Some ss ≡ statements_at 1000 text → all_declared ss ≡ true →
-    count_by (λ s. is_conjecture s.role) ss ≤ 1 → IsFirstForm text ss
-unfolding all_declared
-form_from_reading text ss size read declared one =
-    let a = statements_spell 1000 text (unspaced text) ss refl (sym read) in
-    record {
-      spelled = a.spells;
-      names = λ s c. (both (is_lower s.name) (is_lower s.atom) (each _ ss a.low s c)).0;
-      atoms = λ s c. (both (is_lower s.name) (is_lower s.atom) (each _ ss a.low s c)).1;
-      declared = λ s c. declared_is ss s.atom (each _ ss declared s c);
-      one_conjecture = one;
-      few_statements = a.few;
-      few_bytes = size;
-    }
+among_declared : (ss : List Statement) (a : List ℕ) → Among (filter_map declared_atom ss) a → list_any (declares a) ss ≡ true
+unfolding declares
+among_declared [] a m = absurd m
+among_declared (s ∷ ss) a m = fewer_declared (declared_atom s) a (list_any (declares a) ss) (filter_map declared_atom ss) (among_declared ss a) m
 
-pub read_from_form : (text : List ℕ) (ss : List Statement) → IsFirstForm text ss → statements_at 1000 text ≡ Some ss
-read_from_form text ss f = statements_found ss 1000 text
-    (record {
-      low = from_each _ ss (λ s c. rw (f.names s c, f.atoms s c) refl);
-      few = f.few_statements;
-      spells = f.spelled;
-    })
+-- one hypothesis more, or none
+consed : {X : Type 0} (o : Option X) (xs : List X) → cons_option o xs ≡ cons_option o [] ++ xs
+consed None xs = refl
+consed (Some x) xs = refl
 
-pub declared_from_form : (text : List ℕ) (ss : List Statement) → IsFirstForm text ss → all_declared ss ≡ true
-unfolding all_declared
-declared_from_form text ss f = from_each _ ss (λ s c. is_declared_so ss s.atom (f.declared s c))
+pub one_more_given : (ss : List Statement) (i : ℕ) (s : Statement) (found now : List Hypothesis) (o : Option Hypothesis) (whole : List Hypothesis) →
+    i < length ss → s ≡ get_or ss i s → now ≡ found ++ cons_option o [] → o ≡ hypothesis_of s →
+    found ++ filter_map hypothesis_of (drop i ss) ≡ whole → now ++ filter_map hypothesis_of (drop (i + 1) ss) ≡ whole
+one_more_given ss i s found now o whole lt at new given so_far =
+    let rest = filter_map hypothesis_of (drop (i + 1) ss) in
+    let step = at_drop_more (λ xs. filter_map hypothesis_of xs) ss i s lt ∙ ap (λ t. cons_option (hypothesis_of t) rest) (sym at) in
+    let here = step ∙ (ap (λ p. cons_option p rest) (sym given) ∙ consed o rest) in
+    ap (λ xs. xs ++ rest) new ∙ (append_assoc found (cons_option o []) rest ∙ (sym (ap (λ xs. found ++ xs) here) ∙ so_far))
 
--- a text has at most one list of statements
-pub one_form : (text : List ℕ) (ss us : List Statement) → IsFirstForm text ss → IsFirstForm text us → ss ≡ us
-one_form text ss us f g = let h = sym (read_from_form text ss f) ∙ read_from_form text us g in cc
+pub form_from_tests : (ss : List Statement) (hs : List Hypothesis) → hs ≡ hypotheses ss → length ss ≤ 1000 → all_parts ss ≡ true →
+    all_declared ss hs ≡ true → count_by (λ h. is_conjecture h.role) hs ≤ 1 → IsFirstForm ss
+unfolding all_parts all_declared is_declared
+form_from_tests ss hs same few parts declared one = record {
+  few_statements = few;
+  parts = λ s c. each is_part ss parts s c;
+  declared = λ h c.
+      let e = ap (all_declared ss) (sym same) ∙ declared in
+      contained (atoms ss) h.formula.atom (declared_among ss h.formula.atom (each (λ k. is_declared ss k.formula.atom) (hypotheses ss) e h c));
+  one_conjecture = (let P : List Hypothesis → Type 0 = λ us. count_by (λ h. is_conjecture h.role) us ≤ 1 in subst P same one);
+}
 
-pub no_form_unread : (text : List ℕ) (ss : List Statement) → None ≡ statements_at 1000 text → IsFirstForm text ss → ⊥
-no_form_unread text ss e f = let h = e ∙ read_from_form text ss f in absurd cc
+pub parts_from_form : (ss : List Statement) → IsFirstForm ss → all_parts ss ≡ true
+unfolding all_parts
+parts_from_form ss f = from_each is_part ss f.parts
 
-pub no_form_refused : (text : List ℕ) (found ss : List Statement) → Some found ≡ statements_at 1000 text →
-    (all_declared found ≡ true → count_by (λ s. is_conjecture s.role) found ≤ 1 → ⊥) → IsFirstForm text ss → ⊥
-no_form_refused text found ss e refused f =
-    let h = e ∙ read_from_form text ss f in
-    let same : ss ≡ found = cc in
-    refused (ap all_declared (sym same) ∙ declared_from_form text ss f)
-    (let k = ap (count_by (λ s. is_conjecture s.role)) same in omega (arith, k, f.one_conjecture))
+pub declared_from_form : (ss : List Statement) (hs : List Hypothesis) → hs ≡ hypotheses ss → IsFirstForm ss → all_declared ss hs ≡ true
+unfolding all_declared is_declared
+declared_from_form ss hs same f =
+    ap (all_declared ss) same ∙ from_each (λ h. is_declared ss h.formula.atom) (hypotheses ss)
+    (λ h c. among_declared ss h.formula.atom (among (atoms ss) h.formula.atom (f.declared h c)))
+
+pub one_from_form : (ss : List Statement) (hs : List Hypothesis) → hs ≡ hypotheses ss → IsFirstForm ss → count_by (λ h. is_conjecture h.role) hs ≤ 1
+one_from_form ss hs same f = let P : List Hypothesis → Type 0 = λ us. count_by (λ h. is_conjecture h.role) us ≤ 1 in subst P (sym same) f.one_conjecture

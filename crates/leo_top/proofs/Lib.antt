@@ -1,11 +1,8 @@
-pub mod Turns
+pub mod Among
+mod Atoms
 pub mod Deciding
 pub mod Taking
-pub mod Gaps
-pub mod Lowers
-pub mod Spelled
 pub mod Forms
 pub mod Falsity
 pub mod Answering
 pub mod Ending
-mod Atoms

@@ -1,8 +1,10 @@
-pub mod Form
+pub mod Problem
 pub mod Formulas
 pub mod Pairs
+pub mod Refusals
 pub mod Lines
+pub mod Names
 pub mod Texts
 pub mod Answers
-pub mod Reader
+pub mod Checks
 pub mod Laws

@@ -1,14 +1,14 @@
 -- Formulas of which one is the negation of another, and how many clauses the formulas give.
-use Rattle.std.specs.Prelude.{◌≡◌, ℕ, suc, ◌<◌, ◌≤◌, ◌⊎◌, Bool, false, List, [], ◌∷◌, Some, slice_get, if◌then◌else◌}
+use Rattle.std.specs.Prelude.{◌≡◌, ℕ, suc, ◌<◌, ◌≤◌, ◌%◌, ◌⊎◌, Bool, ◌&&◌, ◌==◌, List, [], ◌∷◌, Some, slice_get, if◌then◌else◌}
 use Rattle.std.specs.List.{list_any}
 use Rattle.std.specs.Str.{bytes_eq}
-use Rattle.leo_top.specs.Formulas.{Formula, atom_of, not_of}
+use Rattle.leo_top.specs.Problem.{Formula, negation}
 
 -- formula b is the negation of formula a
 pub record IsPair (formulas : List Formula) (a b : ℕ) : Type 0 where
-  pub atom : List ℕ
-  pub asserted : slice_get formulas a ≡ Some (atom_of atom)
-  pub denied : slice_get formulas b ≡ Some (not_of atom)
+  pub formula : Formula
+  pub asserted : slice_get formulas a ≡ Some formula
+  pub denied : slice_get formulas b ≡ Some (negation formula)
 
 -- the pair of least b, then of least a
 pub record IsFirstPair (formulas : List Formula) (a b : ℕ) : Type 0 where
@@ -19,13 +19,12 @@ pub record IsFirstPair (formulas : List Formula) (a b : ℕ) : Type 0 where
 abbrev pub HasNoPair : List Formula → Type 0
 HasNoPair formulas = (a b : ℕ) → ¬ IsPair formulas a b
 
--- whether two formulas are the same
-abbrev pub same_formula : Formula → Formula → Bool
-same_formula (atom_of p) (atom_of q) = bytes_eq p q
-same_formula (not_of p) (not_of q) = bytes_eq p q
-same_formula _ _ = false
+-- whether two formulas give the same clause: an atom behind an even number of negations gives `p = $true`, and
+-- behind an odd one `p = $false`
+abbrev pub same_clause : Formula → Formula → Bool
+same_clause f g = ((f.negations % 2) == (g.negations % 2)) && bytes_eq f.atom g.atom
 
--- how many different formulas these are: each gives one clause, `p = $true` or `p = $false`
+-- how many different clauses the formulas give
 abbrev pub different : List Formula → ℕ
 different [] = 0
-different (f ∷ fs) = if list_any (same_formula f) fs then different fs else suc (different fs)
+different (f ∷ fs) = if list_any (same_clause f) fs then different fs else suc (different fs)

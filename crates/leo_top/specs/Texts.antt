@@ -1,7 +1,11 @@
 -- The texts of the answers.
 use Rattle.std.specs.Prelude.{ℕ, nat_lt, List, [], ◌∷◌, ◌++◌, codes, decimal, if◌then◌else◌}
-use Rattle.leo_top.specs.Form.{Statement}
+use Rattle.std.specs.List.{concat}
+use Rattle.leo_top.specs.declared.hypothesis.Role.{Role}
+use Rattle.leo_top.specs.declared.hypothesis.Role.TheVariants.{Axiom, Conjecture}
+use Rattle.leo_top.specs.Problem.{Hypothesis}
 use Rattle.leo_top.specs.Lines.{shown, quoted, line}
+use Rattle.leo_top.specs.Names.{name_text, formula_text}
 
 -- the status line: the status, and the file or the program that it is for
 unfoldable pub status_line : List ℕ → List ℕ → List ℕ
@@ -17,70 +21,89 @@ end_line file = line (codes "% SZS output end Refutation for " ∷ shown file �
 unfoldable pub file_line : List ℕ → List ℕ → List ℕ
 file_line file words = line (codes "% leo3: " ∷ shown file ∷ codes ": " ∷ words ∷ [])
 
+-- a line on a byte of the file
+unfoldable pub byte_line : List ℕ → ℕ → List ℕ → List ℕ
+byte_line file byte words = line (codes "% leo3: " ∷ shown file ∷ codes ": byte " ∷ decimal byte ∷ codes ": " ∷ words ∷ [])
+
 -- the line on the end of the clauses
 unfoldable pub turns_line : ℕ → List ℕ
 turns_line turns = line (codes "% leo3: no clause left after " ∷ decimal turns ∷ codes " turns" ∷ [])
 
--- hypothesis number a, an axiom
-unfoldable pub axiom_line : List ℕ → ℕ → Statement → List ℕ
-axiom_line file a s =
-    line (codes "thf(h" ∷ decimal a ∷ codes ",axiom," ∷ s.atom ∷ codes ",file('" ∷ quoted file ∷ codes "'," ∷ s.name ∷ codes "))." ∷ [])
+-- where a hypothesis comes from: the file, and the name of its statement there
+unfoldable pub source_text : List ℕ → List ℕ → List ℕ
+source_text file name = concat (codes "file('" ∷ quoted file ∷ codes "'," ∷ name_text name ∷ codes ")" ∷ [])
 
--- hypothesis number b, the negated conjecture
-unfoldable pub conjecture_line : List ℕ → ℕ → Statement → List ℕ
-conjecture_line file b s =
-    line (codes "thf(h" ∷ decimal b ∷ codes ",negated_conjecture,( ~ " ∷ s.atom ∷ codes " ),inference(negate,[status(cth)],[file('" ∷ quoted file ∷ codes "'," ∷ s.name ∷ codes ")]))." ∷ [])
+-- hypothesis of that number, an axiom
+unfoldable pub axiom_line : List ℕ → ℕ → Hypothesis → List ℕ
+axiom_line file number h =
+    line (codes "thf(h" ∷ decimal number ∷ codes ",axiom," ∷ formula_text h.formula ∷ codes "," ∷ source_text file h.name ∷ codes ")." ∷ [])
+
+-- hypothesis of that number, the negated conjecture
+unfoldable pub conjecture_line : List ℕ → ℕ → Hypothesis → List ℕ
+conjecture_line file number h =
+    line (codes "thf(h" ∷ decimal number ∷ codes ",negated_conjecture," ∷ formula_text h.formula ∷ codes ",inference(negate,[status(cth)],[" ∷ source_text file h.name ∷ codes "]))." ∷ [])
+
+abbrev pub line_by : Role → List ℕ → ℕ → Hypothesis → List ℕ
+line_by Axiom file number h = axiom_line file number h
+line_by Conjecture file number h = conjecture_line file number h
+
+-- hypothesis of that number
+abbrev pub hypothesis_line : List ℕ → ℕ → Hypothesis → List ℕ
+hypothesis_line file number h = line_by h.role file number h
 
 -- the two hypotheses, by number
-abbrev pub hypothesis_lines : List ℕ → ℕ → Statement → ℕ → Statement → List (List ℕ)
+abbrev pub hypothesis_lines : List ℕ → ℕ → Hypothesis → ℕ → Hypothesis → List (List ℕ)
 hypothesis_lines file a asserted b denied =
-    if nat_lt a b then axiom_line file a asserted ∷ conjecture_line file b denied ∷ []
-    else conjecture_line file b denied ∷ axiom_line file a asserted ∷ []
+    if nat_lt a b then hypothesis_line file a asserted ∷ hypothesis_line file b denied ∷ []
+    else hypothesis_line file b denied ∷ hypothesis_line file a asserted ∷ []
 
--- the steps that take hypothesis a, the atom, and hypothesis b, its negation, as clauses
+-- the steps that take hypothesis a, the formula of that text, and hypothesis b, its negation, as clauses
 unfoldable pub asserted_line : ℕ → List ℕ → List ℕ
-asserted_line a atom =
-    line (codes "thf(l0,plain,( " ∷ atom ∷ codes " = $true ),inference(axiom,[status(thm),ev(" ∷ decimal a ∷ codes ")],[h" ∷ decimal a ∷ codes "]))." ∷ [])
+asserted_line a formula =
+    line (codes "thf(l0,plain,( " ∷ formula ∷ codes " = $true ),inference(axiom,[status(thm),ev(" ∷ decimal a ∷ codes ")],[h" ∷ decimal a ∷ codes "]))." ∷ [])
 
 unfoldable pub denied_line : ℕ → List ℕ → List ℕ
-denied_line b atom =
-    line (codes "thf(l1,plain,( ( ~ " ∷ atom ∷ codes " ) = $true ),inference(axiom,[status(thm),ev(" ∷ decimal b ∷ codes ")],[h" ∷ decimal b ∷ codes "]))." ∷ [])
+denied_line b formula =
+    line (codes "thf(l1,plain,( ( ~ " ∷ formula ∷ codes " ) = $true ),inference(axiom,[status(thm),ev(" ∷ decimal b ∷ codes ")],[h" ∷ decimal b ∷ codes "]))." ∷ [])
 
 -- the steps from these clauses to the empty clause
 unfoldable pub false_line : List ℕ → List ℕ
-false_line atom =
-    line (codes "thf(l2,plain,( " ∷ atom ∷ codes " = $false ),inference(logic,[status(thm),ev(0,not)],[l1]))." ∷ [])
+false_line formula =
+    line (codes "thf(l2,plain,( " ∷ formula ∷ codes " = $false ),inference(logic,[status(thm),ev(0,not)],[l1]))." ∷ [])
 
 unfoldable pub meeting_line : List ℕ → List ℕ
-meeting_line atom =
-    line (codes "thf(l3,plain,( ( $true = $false ) | ( " ∷ atom ∷ codes " != " ∷ atom ∷ codes " ) ),inference(para,[status(thm),ev(0,left,0,left,[])],[l0,l2]))." ∷ [])
+meeting_line formula =
+    line (codes "thf(l3,plain,( ( $true = $false ) | ( " ∷ formula ∷ codes " != " ∷ formula ∷ codes " ) ),inference(para,[status(thm),ev(0,left,0,left,[])],[l0,l2]))." ∷ [])
 
 unfoldable pub unequal_line : List ℕ → List ℕ
-unequal_line atom =
-    line (codes "thf(l4,plain,( " ∷ atom ∷ codes " != " ∷ atom ∷ codes " ),inference(drop,[status(thm),ev(0)],[l3]))." ∷ [])
+unequal_line formula =
+    line (codes "thf(l4,plain,( " ∷ formula ∷ codes " != " ∷ formula ∷ codes " ),inference(drop,[status(thm),ev(0)],[l3]))." ∷ [])
 
 unfoldable pub empty_line : List ℕ
 empty_line = line (codes "thf(l5,plain,$false,inference(drop,[status(thm),ev(0)],[l4]))." ∷ [])
 
 -- the six steps
 abbrev pub step_lines : ℕ → ℕ → List ℕ → List (List ℕ)
-step_lines a b atom =
-    asserted_line a atom ∷ denied_line b atom ∷ false_line atom ∷ meeting_line atom ∷ unequal_line atom ∷ empty_line ∷ []
+step_lines a b formula =
+    asserted_line a formula ∷ denied_line b formula ∷ false_line formula ∷ meeting_line formula ∷ unequal_line formula ∷ empty_line ∷ []
 
--- the output lines, with the derivation of falsity from hypothesis a, an axiom, and hypothesis b, the
--- negated conjecture on the same atom
-abbrev pub output_lines : List ℕ → ℕ → Statement → ℕ → Statement → List (List ℕ)
+-- the output lines, with the derivation of falsity from hypothesis a and hypothesis b, the negation of it
+abbrev pub output_lines : List ℕ → ℕ → Hypothesis → ℕ → Hypothesis → List (List ℕ)
 output_lines file a asserted b denied =
-    start_line file ∷ (hypothesis_lines file a asserted b denied ++ (step_lines a b asserted.atom ++ end_line file ∷ []))
+    start_line file ∷ (hypothesis_lines file a asserted b denied ++ (step_lines a b (formula_text asserted.formula) ++ end_line file ∷ []))
 
 -- the lines of a refutation
-abbrev pub refuted_lines : List ℕ → List ℕ → ℕ → Statement → ℕ → Statement → List (List ℕ)
+abbrev pub refuted_lines : List ℕ → List ℕ → ℕ → Hypothesis → ℕ → Hypothesis → List (List ℕ)
 refuted_lines word file a asserted b denied = status_line word file ∷ output_lines file a asserted b denied
 
 -- the lines of a search that ended with no clause left
 abbrev pub exhausted_lines : List ℕ → List ℕ → ℕ → List (List ℕ)
 exhausted_lines word file turns = status_line word file ∷ turns_line turns ∷ []
 
--- the lines of a file that is refused or cannot be read
-abbrev pub refused_lines : List ℕ → List ℕ → List ℕ → List (List ℕ)
-refused_lines word file words = status_line word file ∷ file_line file words ∷ []
+-- the lines of a file that is refused as a whole or cannot be read
+abbrev pub noted_lines : List ℕ → List ℕ → List ℕ → List (List ℕ)
+noted_lines word file words = status_line word file ∷ file_line file words ∷ []
+
+-- the lines of a file that is refused at a byte
+abbrev pub refused_lines : List ℕ → List ℕ → ℕ → List ℕ → List (List ℕ)
+refused_lines word file byte words = status_line word file ∷ byte_line file byte words ∷ []

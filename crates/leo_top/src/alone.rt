@@ -1,11 +1,12 @@
 //! The call that answers a command.
-ghost use Rattle.std.specs.Prelude.{◌≡◌, ◌⊎◌, ℕ, List, [], ◌∷◌, length, codes, IfOk, slice_get, Some};
+ghost use Rattle.std.specs.Prelude.{◌≡◌, ◌⊎◌, ℕ, List, [], ◌∷◌, length, codes, true, false, IfOk, slice_get, Some};
 ghost use Rattle.std.specs.List.{concat};
 ghost use Rattle.leo_edge.specs.Outside.{HasRisen};
 ghost use Rattle.leo_top.specs.Answers as answers;
 ghost use Rattle.leo_top.specs.Texts.{status_line};
 
 use crate::answer::answer_words;
+use crate::laws::answers_are_unique;
 use crate::status::Status;
 use crate::texts::add_status;
 use crate::writing::put_text;
@@ -86,10 +87,12 @@ fn answered<F: Files, O: Sink>(alloc: Global, words: &Words, files: &mut F, out:
 
 /// Answers the words of a command: reads the file that they name, and puts the answer line by line.
 ///
-/// The words are the program's name and the file. A file of the first form gives `Theorem` with a derivation
-/// exactly where its hypotheses have a pair, and else `GaveUp`; any other file is an `InputError`. Other words
-/// are a `UsageError`. `OSError` comes only where the files' count of faults rose, `WriteFault` only where the
-/// sink's did, and `MemoryOut` for want of memory.
+/// The words are the program's name and the file. A problem of the first form gives a derivation exactly where
+/// one of its hypotheses is the negation of another, as `Theorem` where there is a conjecture and as
+/// `Unsatisfiable` where there is none, and else `GaveUp`. A text that is refused at a byte is a `SyntaxError` or
+/// an `InputError`, and so is one that the prover does not take. Other words are a `UsageError`. `OSError` comes
+/// only where the files' count of faults rose, `WriteFault` only where the sink's did, and `MemoryOut` for want of
+/// memory.
 pub fn leo3_alone<F: Files, O: Sink>(
     alloc: Global,
     words: &Words,
@@ -105,7 +108,10 @@ pub fn leo3_alone<F: Files, O: Sink>(
     ensures exact { (file text : List ℕ) (status : Status) (lines : List (List ℕ)) → answers.IsCommand words.now file → F.content files.old file ≡ Some text → answers.AnswersText file text status lines → answers.IsGiven (concat lines) (O.taken out.old) (O.taken out.new) status result.status ⊎ answers.IsFault result.status }
 
     // A theorem's conjecture follows: with its negation, falsity is derivable.
-    ensures theorem { result.status ≡ Status.Theorem → answers.IsRefuted words.now (F.content files.old) }
+    ensures theorem { result.status ≡ Status.Theorem → answers.IsRefutable words.now (F.content files.old) true }
+
+    // Without a conjecture, falsity is derivable from the axioms.
+    ensures unsatisfiable { result.status ≡ Status.Unsatisfiable → answers.IsRefutable words.now (F.content files.old) false }
 
     // Each other cause.
     ensures usage { result.status ≡ Status.UsageError → ¬ (length words.now ≡ 2) }
@@ -113,5 +119,6 @@ pub fn leo3_alone<F: Files, O: Sink>(
     ensures read_fault { result.status ≡ Status.OSError → (HasRisen (F.faults files.old) (F.faults files.new) × (F.failed files.new ≡ slice_get words.now 1)) }
     ensures write_fault { result.status ≡ Status.WriteFault → HasRisen (O.faults out.old) (O.faults out.new) }
 {
+    answers_are_unique();
     answered(alloc, words, files, out)
 }

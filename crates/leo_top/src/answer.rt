@@ -1,18 +1,25 @@
 //! Answers to texts and to words, made whole.
-ghost use Rattle.std.specs.Prelude.{◌≡◌, IfOk, Some, [], ◌∷◌, codes};
+ghost use Rattle.std.specs.Prelude.{◌≡◌, ◌≤◌, IfOk, Some, [], ◌∷◌, codes, length};
 ghost use Rattle.std.specs.List.{concat};
 ghost use Rattle.leo_edge.specs.Outside.{HasRisen};
 ghost use Rattle.leo_top.specs.Answers as answers;
-ghost use Rattle.leo_top.specs.Formulas as formulas;
+ghost use Rattle.leo_top.specs.Problem.{has_conjecture};
+ghost use Rattle.leo_top.specs.Refusals.{HasTokens, AreStatements};
 ghost use Rattle.leo_top.specs.Texts as texts;
 
+use crate::hypothesis::Hypothesis;
 use crate::pairs::{different, first_pair};
-use crate::problem::{MOST_BYTES, first_form};
-use crate::statement::Statement;
+use crate::problem::first_form;
+use crate::refusal::Refusal;
 use crate::status::Status;
-use crate::texts::{add_note, add_output, add_status, add_turns};
+use crate::texts::{add_byte_note, add_note, add_output, add_status, add_turns};
 use leo_edge::{Fetched, Files, Words};
+use leo_lex::{LexRefusal, Token, tokens};
+use leo_syntax::{Statement, read};
 use std::alloc::{AllocError, Global};
+
+/// The most bytes of a file.
+const MOST_BYTES: usize = 16_777_216;
 
 /// An answer: its status and its text.
 #[derive(Drop)]
@@ -21,32 +28,37 @@ pub struct Answer {
     pub text: Vec<u8>,
 }
 
-// The hypotheses among the statements, in order.
-fn hypotheses<'a>(
-    alloc: Global,
-    statements: Vec<Statement<'a>>,
-) -> Result<Vec<Statement<'a>>, AllocError>
-    ensures { IfOk result (λ v. v.items ≡ formulas.hypotheses statements.entry.items) }
+fn has_conjecture(hypotheses: &[Hypothesis<'_>]) -> bool
+    ensures { result ≡ has_conjecture hypotheses.now }
 {
-    statements
-        .into_iter()
-        .filter(|s| !s.role.is_typing())
-        .collect(alloc)
+    hypotheses.iter().any(|h| h.role.is_conjecture())
 }
 
-// The text of a refutation from hypothesis a, an axiom, and hypothesis b, the negated conjecture on its atom.
+// The status of a refutation from these hypotheses.
+fn refuted_status(hypotheses: &[Hypothesis<'_>]) -> Status
+    ensures { result ≡ answers.refuted_status hypotheses.now }
+{
+    if has_conjecture(hypotheses) {
+        Status::Theorem
+    } else {
+        Status::Unsatisfiable
+    }
+}
+
+// The text of a refutation from hypothesis a and hypothesis b, the negation of it.
 fn refuted(
     alloc: Global,
+    status: Status,
     file: &[u8],
     a: usize,
-    asserted: &Statement<'_>,
+    asserted: &Hypothesis<'_>,
     b: usize,
-    denied: &Statement<'_>,
+    denied: &Hypothesis<'_>,
 ) -> Result<Vec<u8>, AllocError>
-    ensures { IfOk result (λ v. v.items ≡ concat (texts.refuted_lines (codes "Theorem") file.now a asserted.now b denied.now)) }
+    ensures { IfOk result (λ v. v.items ≡ concat (texts.refuted_lines (answers.status_word status) file.now a asserted.now b denied.now)) }
 {
     let mut text = Vec::new(alloc);
-    add_status(alloc, &mut text, Status::Theorem, file)?;
+    add_status(alloc, &mut text, status, file)?;
     add_output(alloc, &mut text, file, a, asserted, b, denied)?;
     Ok(text)
 }
@@ -61,9 +73,9 @@ fn exhausted(alloc: Global, file: &[u8], turns: usize) -> Result<Vec<u8>, AllocE
     Ok(text)
 }
 
-// The text that a file is refused or cannot be read.
-fn refused(alloc: Global, status: Status, file: &[u8], words: &[u8]) -> Result<Vec<u8>, AllocError>
-    ensures { IfOk result (λ v. v.items ≡ concat (texts.refused_lines (answers.status_word status) file.now words.now)) }
+// The text on a file that is refused as a whole or cannot be read.
+fn noted(alloc: Global, status: Status, file: &[u8], words: &[u8]) -> Result<Vec<u8>, AllocError>
+    ensures { IfOk result (λ v. v.items ≡ concat (texts.noted_lines (answers.status_word status) file.now words.now)) }
 {
     let mut text = Vec::new(alloc);
     add_status(alloc, &mut text, status, file)?;
@@ -74,11 +86,25 @@ fn refused(alloc: Global, status: Status, file: &[u8], words: &[u8]) -> Result<V
 // The answer to a file that is no problem of the first form.
 fn not_built(alloc: Global, file: &[u8]) -> Result<Answer, AllocError>
     ensures status { IfOk result (λ a. a.status ≡ Status.InputError) }
-    ensures text { IfOk result (λ a. a.text.items ≡ concat (texts.refused_lines (codes "InputError") file.now (codes "form not built"))) }
+    ensures text { IfOk result (λ a. a.text.items ≡ concat (texts.noted_lines (codes "InputError") file.now (codes "form not built"))) }
 {
-    let text = refused(alloc, Status::InputError, file, b"form not built")?;
+    let text = noted(alloc, Status::InputError, file, b"form not built")?;
     Ok(Answer {
         status: Status::InputError,
+        text,
+    })
+}
+
+// The answer to a file that is refused at a byte.
+fn refused(alloc: Global, file: &[u8], refusal: &Refusal) -> Result<Answer, AllocError>
+    ensures status { IfOk result (λ a. a.status ≡ refusal.now.status) }
+    ensures text { IfOk result (λ a. a.text.items ≡ concat (texts.refused_lines (answers.status_word refusal.now.status) file.now refusal.now.byte refusal.now.words)) }
+{
+    let mut text = Vec::new(alloc);
+    add_status(alloc, &mut text, refusal.status, file)?;
+    add_byte_note(alloc, &mut text, file, refusal.byte, refusal.words)?;
+    Ok(Answer {
+        status: refusal.status,
         text,
     })
 }
@@ -87,19 +113,25 @@ fn not_built(alloc: Global, file: &[u8]) -> Result<Answer, AllocError>
 fn answer_hypotheses(
     alloc: Global,
     file: &[u8],
-    hypotheses: &[Statement<'_>],
+    hypotheses: &[Hypothesis<'_>],
 ) -> Result<Answer, AllocError>
     ensures { IfOk result (λ a. answers.IsMadeOf (answers.AnswersHypotheses file.now hypotheses.now a.status) a.text.items) }
 {
     match first_pair(hypotheses) {
         Some(pair) => {
+            let status = refuted_status(hypotheses);
             let asserted = &hypotheses[pair.asserted];
             let denied = &hypotheses[pair.denied];
-            let text = refuted(alloc, file, pair.asserted, asserted, pair.denied, denied)?;
-            Ok(Answer {
-                status: Status::Theorem,
-                text,
-            })
+            let text = refuted(
+                alloc,
+                status,
+                file,
+                pair.asserted,
+                asserted,
+                pair.denied,
+                denied,
+            )?;
+            Ok(Answer { status, text })
         }
         None => {
             let text = exhausted(alloc, file, different(hypotheses))?;
@@ -111,15 +143,51 @@ fn answer_hypotheses(
     }
 }
 
-/// The answer to the text of a file.
-pub fn answer_text(alloc: Global, file: &[u8], text: &[u8]) -> Result<Answer, AllocError>
+// The answer to the statements of a text.
+fn answer_statements(
+    alloc: Global,
+    file: &[u8],
+    text: &[u8],
+    statements: &[Statement],
+) -> Result<Answer, AllocError>
+    requires { AreStatements text.now statements.now }
     ensures { IfOk result (λ a. answers.IsMadeOf (answers.AnswersText file.now text.now a.status) a.text.items) }
 {
-    let Some(statements) = first_form(alloc, text)? else {
+    let Some(hypotheses) = first_form(alloc, statements)? else {
         return not_built(alloc, file);
     };
-    let hypotheses = hypotheses(alloc, statements)?;
     answer_hypotheses(alloc, file, &hypotheses)
+}
+
+// The answer to a text with these tokens.
+fn answer_tokens(
+    alloc: Global,
+    file: &[u8],
+    text: &[u8],
+    tokens: &[Token],
+) -> Result<Answer, AllocError>
+    requires { HasTokens text.now tokens.now }
+    ensures { IfOk result (λ a. answers.IsMadeOf (answers.AnswersText file.now text.now a.status) a.text.items) }
+{
+    match read(alloc, text, tokens) {
+        Ok(statements) => answer_statements(alloc, file, text, &statements),
+        Err(cause) => match Refusal::of_grammar(cause) {
+            Some(refusal) => refused(alloc, file, &refusal),
+            None => Err(AllocError),
+        },
+    }
+}
+
+/// The answer to the text of a file.
+pub fn answer_text(alloc: Global, file: &[u8], text: &[u8]) -> Result<Answer, AllocError>
+    requires { length text.now ≤ MOST_BYTES }
+    ensures { IfOk result (λ a. answers.IsMadeOf (answers.AnswersText file.now text.now a.status) a.text.items) }
+{
+    match tokens(alloc, text) {
+        Ok(found) => answer_tokens(alloc, file, text, &found),
+        Err(LexRefusal::Lexical { byte }) => refused(alloc, file, &Refusal::lexical(byte)),
+        Err(LexRefusal::Memory) => Err(AllocError),
+    }
 }
 
 // The answer to words that are no command.
@@ -138,9 +206,9 @@ fn usage(alloc: Global) -> Result<Answer, AllocError>
 // The answer to a file that could not be read.
 fn read_fault(alloc: Global, file: &[u8]) -> Result<Answer, AllocError>
     ensures status { IfOk result (λ a. a.status ≡ Status.OSError) }
-    ensures text { IfOk result (λ a. a.text.items ≡ concat (texts.refused_lines (codes "OSError") file.now (codes "read fault"))) }
+    ensures text { IfOk result (λ a. a.text.items ≡ concat (texts.noted_lines (codes "OSError") file.now (codes "read fault"))) }
 {
-    let text = refused(alloc, Status::OSError, file, b"read fault")?;
+    let text = noted(alloc, Status::OSError, file, b"read fault")?;
     Ok(Answer {
         status: Status::OSError,
         text,
@@ -162,7 +230,7 @@ pub fn answer_words<F: Files>(
     let mut text = Vec::new(alloc);
     match files.fetch(file, MOST_BYTES, &mut text) {
         Fetched::Got => answer_text(alloc, file.as_bytes(), &text),
-        Fetched::Long => not_built(alloc, file.as_bytes()),
+        Fetched::Long => refused(alloc, file.as_bytes(), &Refusal::large()),
         Fetched::Failed => read_fault(alloc, file.as_bytes()),
         Fetched::Memory => Err(AllocError),
     }

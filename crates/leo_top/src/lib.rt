@@ -3,12 +3,13 @@
 
 mod alone;
 mod answer;
+mod hypothesis;
 pub mod laws;
 mod lines;
+mod names;
 mod pairs;
 mod problem;
-mod reading;
-mod statement;
+mod refusal;
 mod status;
 #[cfg(test)]
 mod tests;

@@ -1,16 +1,25 @@
 //! What stands in the lines of an answer.
 ghost use Rattle.std.specs.Prelude.{◌≡◌, ◌++◌, map, IfOk, OnOk};
+ghost use Rattle.std.specs.List.{concat, flat_map};
 ghost use Rattle.leo_top.specs.Lines as lines;
 
 use std::alloc::{AllocError, Global};
+
+/// Appends these parts.
+pub fn add_parts(text: &mut Vec<u8>, parts: &[&[u8]]) -> Result<(), AllocError>
+    ensures { OnOk result (text.new.items ≡ text.old.items ++ concat (map (λ part. part.now) parts.now)) }
+{
+    for part in parts {
+        text.extend_from_slice(part)?;
+    }
+    Ok(())
+}
 
 /// Appends a line made of these parts.
 pub fn add_line(text: &mut Vec<u8>, parts: &[&[u8]]) -> Result<(), AllocError>
     ensures { OnOk result (text.new.items ≡ text.old.items ++ lines.line (map (λ part. part.now) parts.now)) }
 {
-    for part in parts {
-        text.extend_from_slice(part)?;
-    }
+    add_parts(text, parts)?;
     text.push(b'\n')?;
     Ok(())
 }
@@ -32,13 +41,23 @@ pub fn shown(alloc: Global, name: &[u8]) -> Result<Vec<u8>, AllocError>
     name.iter().map(|b| shown_byte(*b)).collect(alloc)
 }
 
-fn add_escaped(text: &mut Vec<u8>, byte: u8) -> Result<(), AllocError>
+fn add_escaped_byte(text: &mut Vec<u8>, byte: u8) -> Result<(), AllocError>
     ensures { OnOk result (text.new.items ≡ text.old.items ++ lines.escaped byte) }
 {
     if byte == b'\'' || byte == b'\\' {
         text.push(b'\\')?;
     }
     text.push(byte)?;
+    Ok(())
+}
+
+/// Appends these bytes as they stand between quotes.
+pub fn add_escaped(text: &mut Vec<u8>, bytes: &[u8]) -> Result<(), AllocError>
+    ensures { OnOk result (text.new.items ≡ text.old.items ++ flat_map lines.escaped bytes.now) }
+{
+    for byte in bytes {
+        add_escaped_byte(text, *byte)?;
+    }
     Ok(())
 }
 
@@ -50,8 +69,6 @@ pub fn quoted(alloc: Global, name: &[u8]) -> Result<Vec<u8>, AllocError>
         return Vec::from_slice(alloc, b"?");
     }
     let mut text = Vec::new(alloc);
-    for byte in name {
-        add_escaped(&mut text, shown_byte(*byte))?;
-    }
+    add_escaped(&mut text, &shown(alloc, name)?)?;
     Ok(text)
 }

@@ -1,12 +1,11 @@
 //! What the hypotheses of a problem decide.
-ghost use Rattle.std.specs.Prelude.{◌≡◌, ℕ, ◌&&◌, not, map, MatchOption, IfSome, ◌<◌, ◌≤◌, length};
+ghost use Rattle.std.specs.Prelude.{◌≡◌, ℕ, MatchOption, IfSome, ◌<◌, ◌≤◌, length};
 ghost use Rattle.std.specs.List.{position, list_any};
-ghost use Rattle.std.specs.Str.{bytes_eq};
-ghost use Rattle.leo_top.specs.Form.{is_conjecture};
-ghost use Rattle.leo_top.specs.Formulas.{formula_of};
+ghost use Rattle.leo_top.specs.Checks.{is_negation};
+ghost use Rattle.leo_top.specs.Formulas.{formulas};
 ghost use Rattle.leo_top.specs.Pairs as pairs;
 
-use crate::statement::Statement;
+use crate::hypothesis::{Formula, Hypothesis};
 
 /// The numbers of two hypotheses of which one is the negation of the other.
 #[derive(Clone, Copy, Debug, PartialEq, Eq)]
@@ -15,30 +14,36 @@ pub struct Pair {
     pub denied: usize,
 }
 
-// The number of the first hypothesis that asserts the atom.
-fn asserting(hypotheses: &[Statement<'_>], atom: &[u8]) -> Option<usize>
-    ensures { result ≡ position (λ s. not (is_conjecture s.role) && bytes_eq s.atom atom.now) hypotheses.now }
+// Whether the second formula is the negation of the first.
+fn is_negation(first: &Formula<'_>, second: &Formula<'_>) -> bool
+    ensures { result ≡ is_negation first.now second.now }
+{
+    first.negations < second.negations
+        && second.negations - first.negations == 1
+        && first.atom == second.atom
+}
+
+// The number of the first hypothesis whose negation is the formula.
+fn asserting(hypotheses: &[Hypothesis<'_>], formula: &Formula<'_>) -> Option<usize>
+    ensures { result ≡ position (λ h. is_negation h.formula formula.now) hypotheses.now }
 {
     hypotheses
         .iter()
-        .position(|s| !s.role.is_conjecture() && s.atom == atom)
+        .position(|h| is_negation(&h.formula, formula))
 }
 
 // The number of the first hypothesis of which this one is the negation.
-fn denied_by(hypotheses: &[Statement<'_>], denied: usize) -> Option<usize>
+fn denied_by(hypotheses: &[Hypothesis<'_>], denied: usize) -> Option<usize>
     requires { denied < length hypotheses.now }
-    ensures { MatchOption result ((a : ℕ) → ¬ pairs.IsPair (map formula_of hypotheses.now) a denied) (λ a. pairs.IsPair (map formula_of hypotheses.now) a denied × ((c : ℕ) → pairs.IsPair (map formula_of hypotheses.now) c denied → a ≤ c)) }
+    ensures { MatchOption result ((a : ℕ) → ¬ pairs.IsPair (formulas hypotheses.now) a denied) (λ a. pairs.IsPair (formulas hypotheses.now) a denied × ((c : ℕ) → pairs.IsPair (formulas hypotheses.now) c denied → a ≤ c)) }
 {
     let hypothesis = &hypotheses[denied];
-    if !hypothesis.role.is_conjecture() {
-        return None;
-    }
-    asserting(hypotheses, hypothesis.atom)
+    asserting(hypotheses, &hypothesis.formula)
 }
 
 /// The pair whose denied hypothesis comes first, and then whose asserted one does.
-pub fn first_pair(hypotheses: &[Statement<'_>]) -> Option<Pair>
-    ensures first { MatchOption result (pairs.HasNoPair (map formula_of hypotheses.now)) (λ p. pairs.IsFirstPair (map formula_of hypotheses.now) p.asserted p.denied) }
+pub fn first_pair(hypotheses: &[Hypothesis<'_>]) -> Option<Pair>
+    ensures first { MatchOption result (pairs.HasNoPair (formulas hypotheses.now)) (λ p. pairs.IsFirstPair (formulas hypotheses.now) p.asserted p.denied) }
     ensures within { IfSome result (λ p. (p.asserted < length hypotheses.now) × (p.denied < length hypotheses.now)) }
 {
     for denied in 0..hypotheses.len() {
@@ -49,21 +54,24 @@ pub fn first_pair(hypotheses: &[Statement<'_>]) -> Option<Pair>
     None
 }
 
-fn same_formula(s: &Statement<'_>, t: &Statement<'_>) -> bool
-    ensures { result ≡ pairs.same_formula (formula_of s.now) (formula_of t.now) }
+// Whether both formulas give the same clause.
+fn same_clause(first: &Formula<'_>, second: &Formula<'_>) -> bool
+    ensures { result ≡ pairs.same_clause first.now second.now }
 {
-    s.role.is_conjecture() == t.role.is_conjecture() && s.atom == t.atom
+    first.negations % 2 == second.negations % 2 && first.atom == second.atom
 }
 
-fn stands_among(formula: &Statement<'_>, hypotheses: &[Statement<'_>]) -> bool
-    ensures { result ≡ list_any (λ other. pairs.same_formula (formula_of formula.now) (formula_of other)) hypotheses.now }
+// Whether one of the hypotheses gives the same clause.
+fn stands_among(hypothesis: &Hypothesis<'_>, hypotheses: &[Hypothesis<'_>]) -> bool
+    ensures { result ≡ list_any (λ h. pairs.same_clause hypothesis.now.formula h.formula) hypotheses.now }
 {
-    hypotheses.iter().any(|other| same_formula(formula, other))
+    let formula = &hypothesis.formula;
+    hypotheses.iter().any(|h| same_clause(formula, &h.formula))
 }
 
-/// How many different formulas the hypotheses give.
-pub fn different(hypotheses: &[Statement<'_>]) -> usize
-    ensures { result ≡ pairs.different (map formula_of hypotheses.now) }
+/// How many different clauses the hypotheses give.
+pub fn different(hypotheses: &[Hypothesis<'_>]) -> usize
+    ensures { result ≡ pairs.different (formulas hypotheses.now) }
 {
     let mut count = 0;
     for (i, hypothesis) in hypotheses.iter().enumerate() {

@@ -5,8 +5,12 @@
 pub enum Status {
     /// The conjecture follows.
     Theorem,
+    /// The axioms have no model, and there is no conjecture.
+    Unsatisfiable,
     /// The search ended without an answer.
     GaveUp,
+    /// The file is no text of the language.
+    SyntaxError,
     /// The file is no problem that the prover takes.
     InputError,
     /// The words are no command.
@@ -29,7 +33,9 @@ impl Status {
     {
         match self {
             Status::Theorem => 0,
+            Status::Unsatisfiable => 0,
             Status::GaveUp => 1,
+            Status::SyntaxError => 2,
             Status::InputError => 2,
             Status::UsageError => 3,
             Status::OSError => 4,
@@ -44,7 +50,9 @@ impl Status {
     {
         match self {
             Status::Theorem => b"Theorem",
+            Status::Unsatisfiable => b"Unsatisfiable",
             Status::GaveUp => b"GaveUp",
+            Status::SyntaxError => b"SyntaxError",
             Status::InputError => b"InputError",
             Status::UsageError => b"UsageError",
             Status::OSError => b"OSError",

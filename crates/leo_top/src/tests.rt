@@ -1,6 +1,7 @@
 use crate::{Status, leo3_alone};
 use leo_edge::{MemFiles, MemSink, Words};
 use std::alloc::{AllocError, Global};
+use std::process::Abort;
 use std::test::Fail;
 
 /// Declares p, assumes p and conjectures p.
@@ -28,66 +29,203 @@ fn command(alloc: Global, words: &[&str]) -> Result<Words, AllocError> {
     Ok(command)
 }
 
-/// A problem's file and text, and the answer's status, code and text.
+/// A problem's text, and the answer's status, code and text. Its file is `p.p`.
 #[derive(Drop)]
 struct Row {
-    file: &'static str,
     problem: &'static [u8],
     status: Status,
     code: u8,
     answer: &'static [u8],
 }
 
+/// The answer to the problem is the one of the row.
+fn is_answered(rt: &impl Abort, alloc: Global, problem: &[u8], row: &Row) -> Result<(), Fail> {
+    let mut files = MemFiles::new(alloc);
+    files.add("p.p", problem)?;
+    let mut out = MemSink::new(alloc);
+    let words = command(alloc, &["leo3", "p.p"])?;
+    let alone = leo3_alone(alloc, &words, &mut files, &mut out);
+    assert_eq!(rt; alone.status, row.status);
+    assert_eq!(rt; alone.code, row.code);
+    assert_eq!(rt; out.taken.as_slice(), row.answer);
+    Ok(())
+}
+
 #[test]
 fn problems_are_answered(rt: HostRuntime) -> Result<(), Fail> {
     let rows = [
         Row {
-            file: "p.p",
             problem: THEOREM,
             status: Status::Theorem,
             code: 0,
             answer: REFUTATION,
         },
         Row {
-            file: "q.p",
             problem: b"thf(p_type,type,p: $o).thf(q_type,type,q:$o).thf(a,axiom,p).thf(c,conjecture,q).",
             status: Status::GaveUp,
             code: 1,
-            answer: b"% SZS status GaveUp for q.p\n% leo3: no clause left after 2 turns\n",
+            answer: b"% SZS status GaveUp for p.p\n% leo3: no clause left after 2 turns\n",
+        },
+        // `p` and `~ ~ p` give one clause.
+        Row {
+            problem: b"thf(t,type,p: $o).thf(a,axiom,p).thf(c,conjecture,~ p).",
+            status: Status::GaveUp,
+            code: 1,
+            answer: b"% SZS status GaveUp for p.p\n% leo3: no clause left after 1 turns\n",
         },
         Row {
-            file: "e.p",
             problem: b"",
             status: Status::GaveUp,
             code: 1,
-            answer: b"% SZS status GaveUp for e.p\n% leo3: no clause left after 0 turns\n",
-        },
-        Row {
-            file: "x.p",
-            problem: b"x",
-            status: Status::InputError,
-            code: 2,
-            answer: b"% SZS status InputError for x.p\n% leo3: x.p: form not built\n",
-        },
-        Row {
-            file: "undeclared.p",
-            problem: b"thf(a,axiom,p).",
-            status: Status::InputError,
-            code: 2,
-            answer: b"% SZS status InputError for undeclared.p\n% leo3: undeclared.p: form not built\n",
+            answer: b"% SZS status GaveUp for p.p\n% leo3: no clause left after 0 turns\n",
         },
     ];
     for row in rows.iter() {
-        let mut files = MemFiles::new(rt.alloc());
-        files.add(row.file, row.problem)?;
-        let mut out = MemSink::new(rt.alloc());
-        let words = command(rt.alloc(), &["leo3", row.file])?;
-        let alone = leo3_alone(rt.alloc(), &words, &mut files, &mut out);
-        assert_eq!(rt; alone.status, row.status);
-        assert_eq!(rt; alone.code, row.code);
-        assert_eq!(rt; out.taken.as_slice(), row.answer);
+        is_answered(&rt, rt.alloc(), row.problem, row)?;
     }
     Ok(())
+}
+
+#[test]
+fn problems_with_negations(rt: HostRuntime) -> Result<(), Fail> {
+    let theorem = Row {
+        problem: b"thf(t,type,p: $o).thf(a,axiom,~ p).thf(c,conjecture,~ p).",
+        status: Status::Theorem,
+        code: 0,
+        answer: b"% SZS status Theorem for p.p
+% SZS output start Refutation for p.p
+thf(h0,axiom,( ~ p ),file('p.p',a)).
+thf(h1,negated_conjecture,( ~ ( ~ p ) ),inference(negate,[status(cth)],[file('p.p',c)])).
+thf(l0,plain,( ( ~ p ) = $true ),inference(axiom,[status(thm),ev(0)],[h0])).
+thf(l1,plain,( ( ~ ( ~ p ) ) = $true ),inference(axiom,[status(thm),ev(1)],[h1])).
+thf(l2,plain,( ( ~ p ) = $false ),inference(logic,[status(thm),ev(0,not)],[l1])).
+thf(l3,plain,( ( $true = $false ) | ( ( ~ p ) != ( ~ p ) ) ),inference(para,[status(thm),ev(0,left,0,left,[])],[l0,l2])).
+thf(l4,plain,( ( ~ p ) != ( ~ p ) ),inference(drop,[status(thm),ev(0)],[l3])).
+thf(l5,plain,$false,inference(drop,[status(thm),ev(0)],[l4])).
+% SZS output end Refutation for p.p
+",
+    };
+    is_answered(&rt, rt.alloc(), theorem.problem, &theorem)?;
+    let unsatisfiable = Row {
+        problem: b"thf(t,type,p: $o).\nthf(a,axiom,p).\nthf(b,axiom,~ p).\n",
+        status: Status::Unsatisfiable,
+        code: 0,
+        answer: b"% SZS status Unsatisfiable for p.p
+% SZS output start Refutation for p.p
+thf(h0,axiom,p,file('p.p',a)).
+thf(h1,axiom,( ~ p ),file('p.p',b)).
+thf(l0,plain,( p = $true ),inference(axiom,[status(thm),ev(0)],[h0])).
+thf(l1,plain,( ( ~ p ) = $true ),inference(axiom,[status(thm),ev(1)],[h1])).
+thf(l2,plain,( p = $false ),inference(logic,[status(thm),ev(0,not)],[l1])).
+thf(l3,plain,( ( $true = $false ) | ( p != p ) ),inference(para,[status(thm),ev(0,left,0,left,[])],[l0,l2])).
+thf(l4,plain,( p != p ),inference(drop,[status(thm),ev(0)],[l3])).
+thf(l5,plain,$false,inference(drop,[status(thm),ev(0)],[l4])).
+% SZS output end Refutation for p.p
+",
+    };
+    is_answered(&rt, rt.alloc(), unsatisfiable.problem, &unsatisfiable)
+}
+
+#[test]
+fn brackets_quotes_and_comments(rt: HostRuntime) -> Result<(), Fail> {
+    let row = Row {
+        problem: b"% An atom in quotes.
+thf('7',type,(('it\\'s': ($o)))). /* Its name is `7`. */
+thf('A',axiom,((('it\\'s')))).
+thf(7,conjecture,'it\\'s').",
+        status: Status::Theorem,
+        code: 0,
+        answer: b"% SZS status Theorem for p.p
+% SZS output start Refutation for p.p
+thf(h0,axiom,'it\\'s',file('p.p','A')).
+thf(h1,negated_conjecture,( ~ 'it\\'s' ),inference(negate,[status(cth)],[file('p.p',7)])).
+thf(l0,plain,( 'it\\'s' = $true ),inference(axiom,[status(thm),ev(0)],[h0])).
+thf(l1,plain,( ( ~ 'it\\'s' ) = $true ),inference(axiom,[status(thm),ev(1)],[h1])).
+thf(l2,plain,( 'it\\'s' = $false ),inference(logic,[status(thm),ev(0,not)],[l1])).
+thf(l3,plain,( ( $true = $false ) | ( 'it\\'s' != 'it\\'s' ) ),inference(para,[status(thm),ev(0,left,0,left,[])],[l0,l2])).
+thf(l4,plain,( 'it\\'s' != 'it\\'s' ),inference(drop,[status(thm),ev(0)],[l3])).
+thf(l5,plain,$false,inference(drop,[status(thm),ev(0)],[l4])).
+% SZS output end Refutation for p.p
+",
+    };
+    is_answered(&rt, rt.alloc(), row.problem, &row)
+}
+
+/// The row of a file that is refused.
+fn refusal(problem: &'static [u8], status: Status, answer: &'static [u8]) -> Row {
+    Row {
+        problem,
+        status,
+        code: 2,
+        answer,
+    }
+}
+
+#[test]
+fn refused_files(rt: HostRuntime) -> Result<(), Fail> {
+    let rows = [
+        refusal(
+            b"x",
+            Status::SyntaxError,
+            b"% SZS status SyntaxError for p.p\n% leo3: p.p: byte 0: syntax\n",
+        ),
+        refusal(
+            b"thf(a,axiom,!",
+            Status::SyntaxError,
+            b"% SZS status SyntaxError for p.p\n% leo3: p.p: byte 13: syntax\n",
+        ),
+        refusal(
+            b"/* x",
+            Status::SyntaxError,
+            b"% SZS status SyntaxError for p.p\n% leo3: p.p: byte 0: lexical\n",
+        ),
+        refusal(
+            b"thf(a,axiom,1).",
+            Status::InputError,
+            b"% SZS status InputError for p.p\n% leo3: p.p: byte 12: unsupported number\n",
+        ),
+        // Its atom has no type statement.
+        refusal(
+            b"thf(a,axiom,p).",
+            Status::InputError,
+            b"% SZS status InputError for p.p\n% leo3: p.p: form not built\n",
+        ),
+        refusal(
+            b"thf(t,type,p: $o).thf(a,axiom,~ ~ p).",
+            Status::InputError,
+            b"% SZS status InputError for p.p\n% leo3: p.p: form not built\n",
+        ),
+    ];
+    for row in rows.iter() {
+        is_answered(&rt, rt.alloc(), row.problem, row)?;
+    }
+    Ok(())
+}
+
+#[test]
+fn deep_and_large_files(rt: HostRuntime) -> Result<(), Fail> {
+    let mut text = Vec::from_slice(rt.alloc(), b"thf(a,axiom,")?;
+    for _ in 0..501 {
+        text.push(b'(')?;
+    }
+    text.extend_from_slice(b"$true")?;
+    let deep = refusal(
+        b"",
+        Status::InputError,
+        b"% SZS status InputError for p.p\n% leo3: p.p: byte 513: deep\n",
+    );
+    is_answered(&rt, rt.alloc(), &text, &deep)?;
+
+    let mut spaces = Vec::new(rt.alloc());
+    for _ in 0..16_777_217 {
+        spaces.push(b' ')?;
+    }
+    let large = refusal(
+        b"",
+        Status::InputError,
+        b"% SZS status InputError for p.p\n% leo3: p.p: byte 0: large\n",
+    );
+    is_answered(&rt, rt.alloc(), &spaces, &large)
 }
 
 #[test]

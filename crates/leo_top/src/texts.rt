@@ -1,11 +1,12 @@
 //! The texts of the answers.
-ghost use Rattle.std.specs.Prelude.{◌≡◌, ◌++◌, OnOk};
+ghost use Rattle.std.specs.Prelude.{◌≡◌, ◌++◌, IfOk, OnOk};
 ghost use Rattle.std.specs.List.{concat};
 ghost use Rattle.leo_top.specs.Answers.{status_word};
 ghost use Rattle.leo_top.specs.Texts as texts;
 
-use crate::lines::{add_line, quoted, shown};
-use crate::statement::Statement;
+use crate::hypothesis::{Hypothesis, Role};
+use crate::lines::{add_line, add_parts, quoted, shown};
+use crate::names::{formula_text, name_text};
 use crate::status::Status;
 use itoa::Buffer;
 use std::alloc::{AllocError, Global};
@@ -38,6 +39,23 @@ pub fn add_note(
     add_line(text, &[b"% leo3: ", &file, b": ", words])
 }
 
+/// Appends a line on a byte of the file.
+#[tactic(auto, unfolding(crate::specs::Texts::byte_line))]
+pub fn add_byte_note(
+    alloc: Global,
+    text: &mut Vec<u8>,
+    file: &[u8],
+    byte: u32,
+    words: &[u8],
+) -> Result<(), AllocError>
+    ensures { OnOk result (text.new.items ≡ text.old.items ++ texts.byte_line file.now byte words.now) }
+{
+    let mut buffer = Buffer::new();
+    let byte = buffer.format(byte).as_bytes();
+    let file = shown(alloc, file)?;
+    add_line(text, &[b"% leo3: ", &file, b": byte ", byte, b": ", words])
+}
+
 /// Appends the line on the end of the clauses.
 #[tactic(auto, unfolding(crate::specs::Texts::turns_line))]
 pub fn add_turns(text: &mut Vec<u8>, turns: usize) -> Result<(), AllocError>
@@ -64,6 +82,18 @@ fn add_end(alloc: Global, text: &mut Vec<u8>, file: &[u8]) -> Result<(), AllocEr
     add_line(text, &[b"% SZS output end Refutation for ", &file])
 }
 
+// Where a hypothesis comes from: the file, and the name of its statement there.
+#[tactic(auto, unfolding(crate::specs::Texts::source_text))]
+fn source_text(alloc: Global, file: &[u8], name: &[u8]) -> Result<Vec<u8>, AllocError>
+    ensures { IfOk result (λ v. v.items ≡ texts.source_text file.now name.now) }
+{
+    let file = quoted(alloc, file)?;
+    let name = name_text(alloc, name)?;
+    let mut text = Vec::new(alloc);
+    add_parts(&mut text, &[b"file('", &file, b"',", &name, b")"])?;
+    Ok(text)
+}
+
 // Appends the hypothesis of that number, an axiom.
 #[tactic(auto, unfolding(crate::specs::Texts::axiom_line))]
 fn add_axiom(
@@ -71,26 +101,17 @@ fn add_axiom(
     text: &mut Vec<u8>,
     file: &[u8],
     number: usize,
-    assumed: &Statement<'_>,
+    hypothesis: &Hypothesis<'_>,
 ) -> Result<(), AllocError>
-    ensures { OnOk result (text.new.items ≡ text.old.items ++ texts.axiom_line file.now number assumed.now) }
+    ensures { OnOk result (text.new.items ≡ text.old.items ++ texts.axiom_line file.now number hypothesis.now) }
 {
     let mut buffer = Buffer::new();
     let number = buffer.format(number).as_bytes();
-    let file = quoted(alloc, file)?;
+    let formula = formula_text(alloc, &hypothesis.formula)?;
+    let source = source_text(alloc, file, hypothesis.name)?;
     add_line(
         text,
-        &[
-            b"thf(h",
-            number,
-            b",axiom,",
-            assumed.atom,
-            b",file('",
-            &file,
-            b"',",
-            assumed.name,
-            b")).",
-        ],
+        &[b"thf(h", number, b",axiom,", &formula, b",", &source, b")."],
     )
 }
 
@@ -101,27 +122,42 @@ fn add_conjecture(
     text: &mut Vec<u8>,
     file: &[u8],
     number: usize,
-    conjecture: &Statement<'_>,
+    hypothesis: &Hypothesis<'_>,
 ) -> Result<(), AllocError>
-    ensures { OnOk result (text.new.items ≡ text.old.items ++ texts.conjecture_line file.now number conjecture.now) }
+    ensures { OnOk result (text.new.items ≡ text.old.items ++ texts.conjecture_line file.now number hypothesis.now) }
 {
     let mut buffer = Buffer::new();
     let number = buffer.format(number).as_bytes();
-    let file = quoted(alloc, file)?;
+    let formula = formula_text(alloc, &hypothesis.formula)?;
+    let source = source_text(alloc, file, hypothesis.name)?;
     add_line(
         text,
         &[
             b"thf(h",
             number,
-            b",negated_conjecture,( ~ ",
-            conjecture.atom,
-            b" ),inference(negate,[status(cth)],[file('",
-            &file,
-            b"',",
-            conjecture.name,
-            b")])).",
+            b",negated_conjecture,",
+            &formula,
+            b",inference(negate,[status(cth)],[",
+            &source,
+            b"])).",
         ],
     )
+}
+
+// Appends the hypothesis of that number.
+fn add_hypothesis(
+    alloc: Global,
+    text: &mut Vec<u8>,
+    file: &[u8],
+    number: usize,
+    hypothesis: &Hypothesis<'_>,
+) -> Result<(), AllocError>
+    ensures { OnOk result (text.new.items ≡ text.old.items ++ texts.hypothesis_line file.now number hypothesis.now) }
+{
+    match hypothesis.role {
+        Role::Axiom => add_axiom(alloc, text, file, number, hypothesis),
+        Role::Conjecture => add_conjecture(alloc, text, file, number, hypothesis),
+    }
 }
 
 // Appends the two hypotheses, by number.
@@ -130,26 +166,26 @@ fn add_hypotheses(
     text: &mut Vec<u8>,
     file: &[u8],
     a: usize,
-    asserted: &Statement<'_>,
+    asserted: &Hypothesis<'_>,
     b: usize,
-    denied: &Statement<'_>,
+    denied: &Hypothesis<'_>,
 ) -> Result<(), AllocError>
     ensures { OnOk result (text.new.items ≡ text.old.items ++ concat (texts.hypothesis_lines file.now a asserted.now b denied.now)) }
 {
     if a < b {
-        add_axiom(alloc, text, file, a, asserted)?;
-        add_conjecture(alloc, text, file, b, denied)?;
+        add_hypothesis(alloc, text, file, a, asserted)?;
+        add_hypothesis(alloc, text, file, b, denied)?;
     } else {
-        add_conjecture(alloc, text, file, b, denied)?;
-        add_axiom(alloc, text, file, a, asserted)?;
+        add_hypothesis(alloc, text, file, b, denied)?;
+        add_hypothesis(alloc, text, file, a, asserted)?;
     }
     Ok(())
 }
 
-// Appends the step that takes hypothesis a, the atom, as a clause.
+// Appends the step that takes hypothesis a, the formula, as a clause.
 #[tactic(auto, unfolding(crate::specs::Texts::asserted_line))]
-fn add_asserted(text: &mut Vec<u8>, a: usize, atom: &[u8]) -> Result<(), AllocError>
-    ensures { OnOk result (text.new.items ≡ text.old.items ++ texts.asserted_line a atom.now) }
+fn add_asserted(text: &mut Vec<u8>, a: usize, formula: &[u8]) -> Result<(), AllocError>
+    ensures { OnOk result (text.new.items ≡ text.old.items ++ texts.asserted_line a formula.now) }
 {
     let mut buffer = Buffer::new();
     let a = buffer.format(a).as_bytes();
@@ -157,7 +193,7 @@ fn add_asserted(text: &mut Vec<u8>, a: usize, atom: &[u8]) -> Result<(), AllocEr
         text,
         &[
             b"thf(l0,plain,( ",
-            atom,
+            formula,
             b" = $true ),inference(axiom,[status(thm),ev(",
             a,
             b")],[h",
@@ -167,10 +203,10 @@ fn add_asserted(text: &mut Vec<u8>, a: usize, atom: &[u8]) -> Result<(), AllocEr
     )
 }
 
-// Appends the step that takes hypothesis b, the negation of the atom, as a clause.
+// Appends the step that takes hypothesis b, the negation of the formula, as a clause.
 #[tactic(auto, unfolding(crate::specs::Texts::denied_line))]
-fn add_denied(text: &mut Vec<u8>, b: usize, atom: &[u8]) -> Result<(), AllocError>
-    ensures { OnOk result (text.new.items ≡ text.old.items ++ texts.denied_line b atom.now) }
+fn add_denied(text: &mut Vec<u8>, b: usize, formula: &[u8]) -> Result<(), AllocError>
+    ensures { OnOk result (text.new.items ≡ text.old.items ++ texts.denied_line b formula.now) }
 {
     let mut buffer = Buffer::new();
     let b = buffer.format(b).as_bytes();
@@ -178,7 +214,7 @@ fn add_denied(text: &mut Vec<u8>, b: usize, atom: &[u8]) -> Result<(), AllocErro
         text,
         &[
             b"thf(l1,plain,( ( ~ ",
-            atom,
+            formula,
             b" ) = $true ),inference(axiom,[status(thm),ev(",
             b,
             b")],[h",
@@ -189,46 +225,46 @@ fn add_denied(text: &mut Vec<u8>, b: usize, atom: &[u8]) -> Result<(), AllocErro
 }
 
 #[tactic(auto, unfolding(crate::specs::Texts::false_line))]
-fn add_false(text: &mut Vec<u8>, atom: &[u8]) -> Result<(), AllocError>
-    ensures { OnOk result (text.new.items ≡ text.old.items ++ texts.false_line atom.now) }
+fn add_false(text: &mut Vec<u8>, formula: &[u8]) -> Result<(), AllocError>
+    ensures { OnOk result (text.new.items ≡ text.old.items ++ texts.false_line formula.now) }
 {
     add_line(
         text,
         &[
             b"thf(l2,plain,( ",
-            atom,
+            formula,
             b" = $false ),inference(logic,[status(thm),ev(0,not)],[l1])).",
         ],
     )
 }
 
 #[tactic(auto, unfolding(crate::specs::Texts::meeting_line))]
-fn add_meeting(text: &mut Vec<u8>, atom: &[u8]) -> Result<(), AllocError>
-    ensures { OnOk result (text.new.items ≡ text.old.items ++ texts.meeting_line atom.now) }
+fn add_meeting(text: &mut Vec<u8>, formula: &[u8]) -> Result<(), AllocError>
+    ensures { OnOk result (text.new.items ≡ text.old.items ++ texts.meeting_line formula.now) }
 {
     add_line(
         text,
         &[
             b"thf(l3,plain,( ( $true = $false ) | ( ",
-            atom,
+            formula,
             b" != ",
-            atom,
+            formula,
             b" ) ),inference(para,[status(thm),ev(0,left,0,left,[])],[l0,l2])).",
         ],
     )
 }
 
 #[tactic(auto, unfolding(crate::specs::Texts::unequal_line))]
-fn add_unequal(text: &mut Vec<u8>, atom: &[u8]) -> Result<(), AllocError>
-    ensures { OnOk result (text.new.items ≡ text.old.items ++ texts.unequal_line atom.now) }
+fn add_unequal(text: &mut Vec<u8>, formula: &[u8]) -> Result<(), AllocError>
+    ensures { OnOk result (text.new.items ≡ text.old.items ++ texts.unequal_line formula.now) }
 {
     add_line(
         text,
         &[
             b"thf(l4,plain,( ",
-            atom,
+            formula,
             b" != ",
-            atom,
+            formula,
             b" ),inference(drop,[status(thm),ev(0)],[l3])).",
         ],
     )
@@ -245,34 +281,34 @@ fn add_empty(text: &mut Vec<u8>) -> Result<(), AllocError>
 }
 
 // Appends the six steps.
-fn add_steps(text: &mut Vec<u8>, a: usize, b: usize, atom: &[u8]) -> Result<(), AllocError>
-    ensures { OnOk result (text.new.items ≡ text.old.items ++ concat (texts.step_lines a b atom.now)) }
+fn add_steps(text: &mut Vec<u8>, a: usize, b: usize, formula: &[u8]) -> Result<(), AllocError>
+    ensures { OnOk result (text.new.items ≡ text.old.items ++ concat (texts.step_lines a b formula.now)) }
 {
-    add_asserted(text, a, atom)?;
-    add_denied(text, b, atom)?;
-    add_false(text, atom)?;
-    add_meeting(text, atom)?;
-    add_unequal(text, atom)?;
+    add_asserted(text, a, formula)?;
+    add_denied(text, b, formula)?;
+    add_false(text, formula)?;
+    add_meeting(text, formula)?;
+    add_unequal(text, formula)?;
     add_empty(text)?;
     Ok(())
 }
 
-/// Appends the output lines, with the derivation of falsity from hypothesis a, an axiom, and hypothesis b,
-/// the negated conjecture on the same atom.
+/// Appends the output lines, with the derivation of falsity from hypothesis a and hypothesis b, the negation
+/// of it.
 pub fn add_output(
     alloc: Global,
     text: &mut Vec<u8>,
     file: &[u8],
     a: usize,
-    asserted: &Statement<'_>,
+    asserted: &Hypothesis<'_>,
     b: usize,
-    denied: &Statement<'_>,
+    denied: &Hypothesis<'_>,
 ) -> Result<(), AllocError>
     ensures { OnOk result (text.new.items ≡ text.old.items ++ concat (texts.output_lines file.now a asserted.now b denied.now)) }
 {
     add_start(alloc, text, file)?;
     add_hypotheses(alloc, text, file, a, asserted, b, denied)?;
-    add_steps(text, a, b, asserted.atom)?;
+    add_steps(text, a, b, &formula_text(alloc, &asserted.formula)?)?;
     add_end(alloc, text, file)?;
     Ok(())
 }

@@ -1,12 +1,15 @@
 use Rattle.std.proofs.Common.{sym, ◌∙◌}
-use Rattle.leo_top.proofs.Ending.{answered_exact, answered_theorem, answered_usage, answered_no_command, answered_read_fault, answered_write_fault}
+use Rattle.leo_top.proofs.Ending.{answered_exact, answered_theorem, answered_unsatisfiable, answered_usage, answered_no_command, answered_read_fault, answered_write_fault}
 use Rattle.leo_top.proofs.alone.leo3_alone.Goals as goal
 
 pub returns-clause-exact : goal.returns-clause-exact
-returns-clause-exact g c = answered_exact c.answered.ensures.answer
+returns-clause-exact g c = answered_exact c.answers_are_unique.ensures c.answered.ensures.answer
 
 pub returns-clause-theorem : goal.returns-clause-theorem
 returns-clause-theorem g c = answered_theorem c.answered.ensures.answer
+
+pub returns-clause-unsatisfiable : goal.returns-clause-unsatisfiable
+returns-clause-unsatisfiable g c = answered_unsatisfiable c.answered.ensures.answer
 
 pub returns-clause-usage : goal.returns-clause-usage
 returns-clause-usage g c = answered_usage c.answered.ensures.answer

@@ -1,18 +1,12 @@
-use Rattle.std.proofs.Common.{◌∙◌}
-use Rattle.std.proofs.lemmas.Option.{MatchOption-at_none, MatchOption-at_some}
-use Rattle.leo_top.specs.Answers.{AnswersText, AnswersHypotheses, by_no_form}
-use Rattle.leo_top.specs.declared.status.Status.TheVariants.{InputError}
-use Rattle.leo_top.proofs.Answering.{fixed, answers_weaker, form_answered}
+use Rattle.leo_top.specs.Answers.{AnswersText, by_refusal}
+use Rattle.leo_top.specs.Refusals.{lexical}
+use Rattle.leo_top.proofs.Answering.{refused_made, tokens_refused}
 use Rattle.leo_top.proofs.answer.answer_text.Goals as goal
 
-pub returns-in_default : goal.returns-in_default
-returns-in_default c =
-    fixed (AnswersText c.args.file.now c.args.text.now) c.not_built.result InputError _ (by_no_form (MatchOption-at_none _ _ c.in_default.is c.in_ok-statements.ensures)) c.not_built.ensures.status c.not_built.ensures.text
-
-pub returns : goal.returns
-returns c =
+pub returns-in-Err-Lexical : goal.returns-in-Err-Lexical
+returns-in-Err-Lexical c =
     let file = c.args.file.now in
     let text = c.args.text.now in
-    let form = MatchOption-at_some _ _ _ c.in-Some.is c.in_ok-statements.ensures in
-    let same = c.deref.ensures.value ∙ c.in_ok-hypotheses.ensures in
-    answers_weaker (AnswersHypotheses file c.deref.result.now) (AnswersText file text) c.answer_hypotheses.result (form_answered file text _ c.deref.result.now form same) c.answer_hypotheses.ensures
+    let found = c.in-Err-Lexical in
+    refused_made (AnswersText file text) c.refused.result file c.lexical.result (lexical found.byte) c.lexical.ensures
+    (by_refusal (tokens_refused text found.field-0 found.byte c.requires found.field-0-is found.ensures.refusal)) c.refused.ensures.status c.refused.ensures.text

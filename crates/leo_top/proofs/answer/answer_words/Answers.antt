@@ -1,8 +1,9 @@
 use Rattle.std.proofs.Common.{◌≡◌, ℕ, List, Some, IfSome, sym, ap, subst, ◌∙◌, length, ◌<◌}
 use Rattle.leo_edge.specs.Outside.{HasRisen}
 use Rattle.leo_top.specs.Answers.{AnswersCall, AnswersText, by_usage, by_read_fault}
-use Rattle.leo_top.specs.declared.status.Status.TheVariants.{InputError, UsageError, OSError}
-use Rattle.leo_top.proofs.Answering.{fixed, answers_weaker, text_answered, long_answered, fetched, commanded}
+use Rattle.leo_top.specs.declared.status.Status.TheVariants.{UsageError, OSError}
+use Rattle.leo_top.specs.Refusals.{large}
+use Rattle.leo_top.proofs.Answering.{fixed, refused_made, answers_weaker, text_answered, long_answered, fetched, commanded}
 use Rattle.leo_top.proofs.answer.answer_words.Goals as goal
 
 pub returns-then-len-ne2 : goal.returns-then-len-ne2
@@ -34,9 +35,9 @@ returns-in-Long g c =
     let same = sym c.as_bytes-in-Long.ensures.value in
     let command = commanded words c.len.result c.word-file.result.now file c.len.ensures c.if-len-ne2.false c.word-file.ensures same in
     let P : List ℕ → Type 0 = λ name. IfSome (g.F.Files.content files name) (λ content. 16777216 < length content) in
-    fixed
+    refused_made
     (AnswersCall words (g.F.Files.content files) (λ file. HasRisen (g.F.Files.faults files) (g.F.Files.faults c.fetch.new.self) × (g.F.Files.failed c.fetch.new.self ≡ Some file)))
-    c.not_built.result InputError _ (long_answered words (g.F.Files.content files) _ file command (subst P same c.in-Long.ensures.long)) c.not_built.ensures.status c.not_built.ensures.text
+    c.refused.result file c.large.result large c.large.ensures (long_answered words (g.F.Files.content files) _ file command (subst P same c.in-Long.ensures.long)) c.refused.ensures.status c.refused.ensures.text
 
 pub returns-in-Failed : goal.returns-in-Failed
 returns-in-Failed g c =

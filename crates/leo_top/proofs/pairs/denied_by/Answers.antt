@@ -5,7 +5,7 @@ use Rattle.leo_top.proofs.pairs.denied_by.Goals as goal
 
 pub returns : goal.returns
 returns c =
-    let ss = c.args.hypotheses.now in
+    let hs = c.args.hypotheses.now in
     let h = c.hypothesis.inside in
-    let at = slice_get_read ss _ c.args.denied _ refl c.requires c.index-hypotheses-denied.is in
-    denied_cases ss c.args.denied (record { name = h.name.now; role = h.role; atom = h.atom.now }) (at ∙ ap Some (sym c.hypothesis.view_is)) (sym c.is_conjecture.ensures ∙ c.if-not-is_conjecture.false) c.asserting.result c.asserting.ensures
+    let at = slice_get_read hs _ c.args.denied _ refl c.requires c.index-hypotheses-denied.is in
+    denied_cases hs c.args.denied (record { name = h.name.now; role = h.role; formula = h.formula }) (at ∙ ap Some (sym c.hypothesis.view_is)) c.asserting.result c.asserting.ensures

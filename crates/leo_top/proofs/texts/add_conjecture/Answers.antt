@@ -6,5 +6,6 @@ pub returns : goal.returns
 unfolding conjecture_line
 returns c =
     let digits = c.as_bytes-number.ensures.value ∙ c.format.ensures.text in
-    let file = c.deref.ensures.value ∙ c.in_ok-file.ensures in
-    rw (← digits, ← file, ← c.conjecture.view_is) c.add_line.ensures
+    let formula = c.deref.ensures.value ∙ c.in_ok-formula.ensures in
+    let source = c.deref-2.ensures.value ∙ c.in_ok-source.ensures in
+    rw (← c.hypothesis.view_is, ← digits, ← formula, ← source) c.add_line.ensures

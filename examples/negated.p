@@ -1,0 +1,4 @@
+% The conjecture is an axiom, and a negation.
+thf(p_type,type,p: $o).
+thf(a,axiom,~ p).
+thf(c,conjecture,( ~ p )).

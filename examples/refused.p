@@ -1,0 +1,2 @@
+thf(p_type,type,p: $o).
+thf(a,axiom,p & p | p).
