@@ -7,7 +7,8 @@ use Rattle.leo_terms.specs.Contents.{Contents, tree_at}
 use Rattle.leo_clause.specs.declared.clause.Lit.{Lit}
 use Rattle.leo_clause.specs.Trees.{Literal, literal_at}
 use Rattle.leo_clause.specs.Typed.{AreLiteralsOf}
-use Rattle.leo_clause.specs.Arranging.{firsts, occurring, occurring_in, AreSeen, AreBelow, AreMet}
+use Rattle.leo_clause.specs.Arranging.{firsts, occurring, occurring_in}
+use Rattle.leo_clause.specs.Renaming.{AreSeen, AreBelow, AreMet}
 use Rattle.leo_clause.proofs.Seen.{firsts-append, AreSeen-with}
 
 -- a term that was visited has met variables

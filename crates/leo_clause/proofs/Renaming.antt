@@ -15,7 +15,8 @@ use Rattle.leo_clause.specs.declared.clause.Clause.{Clause}
 use Rattle.leo_clause.specs.Trees.{Literal, literal_at, clause_at}
 use Rattle.leo_clause.specs.Typed.{AreTyped, AreTypesOf, AreLiteralsOf, IsTypedIn}
 use Rattle.leo_clause.specs.Sameness.{same_tree, same_literal, same_numbers}
-use Rattle.leo_clause.specs.Arranging.{arranged, distinct, firsts, occurring_in, place_in, renumbered_literal, substituted_literal, variable_type, type_in, AreBelow, AreGiven, AreNumbered, AreRenamed, IsRenaming}
+use Rattle.leo_clause.specs.Arranging.{arranged, distinct, firsts, occurring_in, place_in, renumbered_literal, variable_type, type_in}
+use Rattle.leo_clause.specs.Renaming.{substituted_literal, AreBelow, AreGiven, AreNumbered, AreRenamed, IsRenaming}
 use Rattle.leo_clause.proofs.Meeting.{end-only, take-map_next, literals-at}
 use Rattle.leo_clause.proofs.Same.{same_tree-refl, equal-trees}
 use Rattle.leo_clause.proofs.Renumbered.{substituted-renumbered, given-numbered, typed-firsts, typed-numbered, below-order}

@@ -10,7 +10,8 @@ use Rattle.leo_q0.specs.Terms.{SimpleType}
 use Rattle.leo_terms.specs.Tree.{codomain, Tree, variable, bound, symbol, app, lam, logic, absent, type_of, substituted, IsGiven}
 use Rattle.leo_clause.specs.Trees.{Literal}
 use Rattle.leo_clause.specs.Typed.{IsOver, IsTypedLiteral, AreTyped}
-use Rattle.leo_clause.specs.Arranging.{firsts, occurring, occurring_in, place_in, renumbered, renumbered_literal, variable_type, AreSeen, AreBelow, AreNumbered}
+use Rattle.leo_clause.specs.Arranging.{firsts, occurring, occurring_in, place_in, renumbered, renumbered_literal, variable_type}
+use Rattle.leo_clause.specs.Renaming.{AreSeen, AreBelow, AreNumbered}
 use Rattle.leo_clause.proofs.Seen.{AreSeen-met}
 
 -- what is seen in both parts of a list

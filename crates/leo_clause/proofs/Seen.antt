@@ -4,7 +4,8 @@ use Rattle.std.proofs.lemmas.List.{take_more}
 use Rattle.std.specs.Bool.{if◌then◌else◌}
 use Rattle.std.specs.Prelude.{◌||◌}
 use Rattle.std.specs.List.{list_any}
-use Rattle.leo_clause.specs.Arranging.{firsts, AreSeen}
+use Rattle.leo_clause.specs.Arranging.{firsts}
+use Rattle.leo_clause.specs.Renaming.{AreSeen}
 use Rattle.leo_clause.proofs.Same.{same-number}
 
 or-true : (b c d : Bool) → (b || c) ≡ true → (c ≡ true → d ≡ true) → (b || d) ≡ true

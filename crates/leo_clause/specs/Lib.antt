@@ -2,5 +2,6 @@ pub mod Trees
 pub mod Typed
 pub mod Sameness
 pub mod Arranging
+pub mod Renaming
 pub mod Weights
 pub mod Formulas

@@ -7,7 +7,8 @@ ghost use Rattle.leo_terms.specs.Tree.{IsGiven};
 ghost use Rattle.leo_clause.specs.Trees.{literal_at, clause_at};
 ghost use Rattle.leo_clause.specs.Typed.{AreTypesOf, AreLiteralsOf, IsTypedIn};
 ghost use Rattle.leo_clause.specs.Sameness.{same_numbers};
-ghost use Rattle.leo_clause.specs.Arranging.{arranged as arranged_clause, firsts, occurring, occurring_in, place_in, substituted_literal, AreBelow, AreGiven, AreMet, AreRenamed, IsRenaming};
+ghost use Rattle.leo_clause.specs.Arranging.{arranged as arranged_clause, firsts, occurring, occurring_in, place_in};
+ghost use Rattle.leo_clause.specs.Renaming.{substituted_literal, AreBelow, AreGiven, AreMet, AreRenamed, IsRenaming};
 
 use crate::clause::{Clause, Lit};
 use indexmap::IndexSet;

@@ -1,7 +1,8 @@
 use Rattle.std.proofs.Common.{◌∙◌, [], ◌∷◌, sym, rules, refl}
 use Rattle.leo_terms.specs.Contents.{tree_at}
 use Rattle.leo_terms.proofs.CallerLemmas.{reads-var, reads-sym, reads-bound, reads-app, reads-lam, reads-logic}
-use Rattle.leo_clause.specs.Arranging.{occurring, AreSeen}
+use Rattle.leo_clause.specs.Arranging.{occurring}
+use Rattle.leo_clause.specs.Renaming.{AreSeen}
 use Rattle.leo_clause.proofs.Seen.{firsts-none, AreSeen-met}
 use Rattle.leo_clause.proofs.Meeting.{known, met-with, met-more, both-met}
 use Rattle.leo_clause.proofs.arranging.+meet.Goals as goal

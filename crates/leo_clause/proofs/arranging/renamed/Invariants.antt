@@ -1,5 +1,5 @@
 use Rattle.leo_terms.specs.Contents.{Extends}
-use Rattle.leo_clause.specs.Arranging.{AreRenamed}
+use Rattle.leo_clause.specs.Renaming.{AreRenamed}
 use Rattle.leo_clause.proofs.arranging.renamed.Given as goal
 
 abbrev pub invariant-loop-lit : goal.invariant-loop-lit

@@ -1,5 +1,5 @@
 use Rattle.leo_terms.specs.Contents.{Extends}
-use Rattle.leo_clause.specs.Arranging.{IsRenaming}
+use Rattle.leo_clause.specs.Renaming.{IsRenaming}
 use Rattle.leo_clause.proofs.arranging.renaming.Given as goal
 
 abbrev pub invariant-loop-number : goal.invariant-loop-number
