@@ -3,3 +3,4 @@ pub mod Same
 pub mod Renumbered
 pub mod Meeting
 pub mod Renaming
+pub mod Sums

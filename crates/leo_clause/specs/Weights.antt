@@ -1,17 +1,7 @@
--- How large terms and clauses are.
-use Rattle.std.specs.Prelude.{ℕ, suc, ◌+◌, List, [], ◌∷◌}
-use Rattle.leo_terms.specs.Tree.{Tree, variable, bound, symbol, app, lam, logic, absent}
+-- How large clauses are.
+use Rattle.std.specs.Prelude.{ℕ, ◌+◌, List, [], ◌∷◌}
+use Rattle.leo_terms.specs.Facts.{tree_weight}
 use Rattle.leo_clause.specs.Trees.{Literal, ClauseTree}
-
--- one for each variable, index, symbol, logical constant and lambda
-abbrev pub tree_weight : Tree → ℕ
-tree_weight (variable n a) = 1
-tree_weight (bound i a) = 1
-tree_weight (symbol s a) = 1
-tree_weight (app f x) = tree_weight f + tree_weight x
-tree_weight (lam a t) = suc (tree_weight t)
-tree_weight (logic c x y) = suc (tree_weight x + tree_weight y)
-tree_weight absent = 0
 
 abbrev pub literals_weight : List Literal → ℕ
 literals_weight [] = 0

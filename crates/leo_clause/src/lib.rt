@@ -4,10 +4,12 @@
 mod arranging;
 mod clause;
 mod record;
+mod weighing;
 
 pub use arranging::arranged;
 pub use clause::{Clause, Lit};
 pub use record::{Half, LogicKind, Rule, Side, StepRecord};
+pub use weighing::weight;
 
 #[cfg(test)]
 mod tests;

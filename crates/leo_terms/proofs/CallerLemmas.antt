@@ -31,6 +31,8 @@ use Rattle.leo_terms.proofs.NormalFormTyping.{normal_form-reduces}
 pub use Rattle.leo_terms.proofs.Rebuild.{HasView}
 pub use Rattle.leo_terms.proofs.PublicWords.{is_bank, sound, extends, grown, is_added, added, has_normal_form, normal_form, raised-is, put_in-is}
 pub use Rattle.leo_terms.proofs.TypeLemmas.{arrow-same}
+pub use Rattle.leo_terms.proofs.FactLemmas.{bound-closed, given-closed, lifted-closed, substituted-closed}
+pub use Rattle.leo_terms.proofs.Parts.{IsSubterm-trans, part-type, part-only}
 pub use Rattle.leo_terms.proofs.TypingLemmas.{reduces_typed}
 pub use Rattle.leo_terms.proofs.NormalFormLaws.{normal_form-itself}
 pub use Rattle.leo_terms.proofs.NormalFormTyping.{normal_form-reduces, normal_form-normal}

@@ -25,4 +25,7 @@ pub mod DecodedSubstitutions
 pub mod MemoLemmas
 pub mod PublicWords
 pub mod ClosedTerms
+pub mod Parts
+pub mod FactLemmas
+pub mod Accepting
 pub mod CallerLemmas

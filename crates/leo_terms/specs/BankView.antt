@@ -4,6 +4,7 @@ use Rattle.leo_terms.specs.declared.bank.Bank.TheInside.{Inside}
 use Rattle.leo_terms.specs.Contents.{Contents, IsSound}
 use Rattle.leo_terms.specs.SymbolView.{symbol_of}
 use Rattle.leo_terms.specs.Memo.{AreRight}
+use Rattle.leo_terms.specs.KeptFacts.{AreFacts}
 
 abbrev pub contents_of : Inside → Contents
 contents_of b = record {
@@ -15,4 +16,5 @@ contents_of b = record {
 
 pub record IsSoundInside (b : Inside) : Type 0 where
   pub sound : IsSound (contents_of b)
+  pub facts : AreFacts (contents_of b) b.facts.items
   pub right : AreRight (contents_of b) b.lifts.entries b.puts.entries b.expansions.entries b.normals.entries

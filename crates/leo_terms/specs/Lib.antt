@@ -1,6 +1,8 @@
 pub mod Tree
 pub mod Contents
 pub mod SymbolView
+pub mod Facts
+pub mod KeptFacts
 pub mod Memo
 pub mod BankView
 pub mod Reduction
@@ -9,3 +11,6 @@ pub mod Normal
 pub mod Typing
 pub mod Decode
 pub mod Laws
+pub mod Parts
+pub mod Marks
+pub mod Accepting

@@ -1,11 +1,12 @@
 //! The bank.
 
-ghost use Rattle.std.specs.Prelude.{◌≡◌, ◌+◌, ◌-◌, ◌^◌, ◌<◌, ◌≤◌, ℕ, [], ◌∷◌, ◌++◌, length, slice_get, IfOk, OnOk, OnErr, IfErr, Some, None, true};
+ghost use Rattle.std.specs.Prelude.{◌≡◌, ◌+◌, ◌-◌, ◌^◌, ◌<◌, ◌≤◌, ℕ, [], ◌∷◌, ◌++◌, length, slice_get, IfOk, OnOk, OnErr, IfErr, Some, None, take, true};
 ghost use Rattle.std.specs.List.{IsDistinct};
 ghost use Rattle.leo_terms.specs.Tree.{variable, bound, symbol, app, lam, logic, IsBoundAt};
 ghost use Rattle.indexmap.specs.IndexSet.{insert_key};
 ghost use Rattle.leo_terms.specs.Contents.{Contents, AddsShared, IsAdded, IsBank, Extends, connective, argument, IsSound, IsSoundNode, IsSoundType, Grows, IsArrow, IsTerm, IsApplicable, IsNewName, IsSoundView, IsTypedView, AddsSymbol, Takes, HasTypeBelow, node, start, type_at, tree_at, view_tree, type_number, codomain_number, symbol_type, operator_type, argument_type};
 
+use crate::facts::TermFacts;
 use crate::memo::{Lift, Put};
 use crate::node::{Op, SymId, TermId, TermNode, TyId, TyView, View};
 use indexmap::{IndexMap, IndexSet};
@@ -27,6 +28,7 @@ pub struct Bank {
     pub(crate) types: IndexSet<TyView>,
     pub(crate) symbols: Vec<Symbol>,
     pub(crate) terms: IndexSet<TermNode>,
+    pub(crate) facts: Vec<TermFacts>,
     pub(crate) lifts: IndexMap<Lift, TermId>,
     pub(crate) puts: IndexMap<Put, TermId>,
     pub(crate) expansions: IndexMap<TermId, TermId>,
@@ -59,8 +61,31 @@ fn add<T: Eq + Hash + Drop>(nodes: &mut IndexSet<T>, node: T) -> Result<usize, A
     Ok(place)
 }
 
+/// The same, where facts are kept beside the nodes.
+fn add_with_facts<T: Eq + Hash + Drop>(
+    nodes: &mut IndexSet<T>,
+    facts: &mut Vec<TermFacts>,
+    node: T,
+    its: TermFacts,
+) -> Result<usize, AllocError>
+    requires { length facts.old.items ≡ length nodes.old.keys }
+    ensures stored { IfOk result (λ n. (x : T) × (slice_get nodes.new.keys n ≡ Some x) × (T.eq node x ≡ true)) }
+    ensures keys { OnOk result (nodes.new.keys ≡ insert_key T.eq nodes.old.keys node) }
+    ensures unique { IsDistinct T.eq nodes.new.keys }
+    ensures reflexive { (x : T) → T.eq x x ≡ true }
+    ensures fits { length nodes.new.keys < 2 ^ 64 }
+    ensures err { OnErr result (nodes.new.keys ≡ nodes.old.keys) }
+    ensures facts { facts.new.items ≡ take (length nodes.new.keys) (facts.old.items ++ its ∷ []) }
+{
+    let _count = nodes.len();
+    facts.push(its)?;
+    let place = add(nodes, node);
+    facts.truncate(nodes.len());
+    place
+}
+
 /// The argument at a place, if one stands there.
-fn argument_at(args: &[TermId], place: usize) -> Option<TermId>
+pub(crate) fn argument_at(args: &[TermId], place: usize) -> Option<TermId>
     ensures { result ≡ slice_get args.now place }
 {
     if place < args.len() {
@@ -94,7 +119,9 @@ impl Bank {
     {
         // The check wants to see the types of a node's parts among this function's variables.
         let (_op, _argument): (Op, Option<TermId>) = (Op::True, None);
-        let place = add(&mut self.terms, TermNode { view, ty })?;
+        let facts = self.facts_of(&view);
+        let node = TermNode { view, ty };
+        let place = add_with_facts(&mut self.terms, &mut self.facts, node, facts)?;
         Ok(TermId::new(place))
     }
 }
@@ -111,6 +138,7 @@ impl Bank {
             types,
             symbols: Vec::new(alloc),
             terms: IndexSet::new(alloc),
+            facts: Vec::new(alloc),
             lifts: IndexMap::new(alloc),
             puts: IndexMap::new(alloc),
             expansions: IndexMap::new(alloc),

@@ -21,7 +21,7 @@ fn node_at<T: Eq + Hash + Copy>(nodes: &IndexSet<T>, place: usize) -> T
 }
 
 /// A set with the same nodes under the same numbers.
-fn copied<T: Eq + Hash + Copy + Drop>(
+pub(crate) fn copied<T: Eq + Hash + Copy + Drop>(
     alloc: Global,
     nodes: &IndexSet<T>,
 ) -> Result<IndexSet<T>, AllocError>
@@ -48,7 +48,7 @@ fn copied_symbol(alloc: Global, symbol: &Symbol) -> Result<Symbol, AllocError>
     })
 }
 
-fn copied_symbols(alloc: Global, symbols: &[Symbol]) -> Result<Vec<Symbol>, AllocError>
+pub(crate) fn copied_symbols(alloc: Global, symbols: &[Symbol]) -> Result<Vec<Symbol>, AllocError>
     ensures { IfOk result (λ s. map symbol_of s.items ≡ map symbol_of symbols.now) }
 {
     let mut copy = Vec::new(alloc);
@@ -77,6 +77,7 @@ impl Bank {
             types: copied(alloc, &self.types)?,
             symbols: copied_symbols(alloc, &self.symbols)?,
             terms: copied(alloc, &self.terms)?,
+            facts: self.facts.to_vec(alloc)?,
             lifts: IndexMap::new(alloc),
             puts: IndexMap::new(alloc),
             expansions: IndexMap::new(alloc),

@@ -3,12 +3,15 @@
 
 mod bank;
 mod copy;
+mod facts;
 pub mod laws;
 mod lift;
 mod memo;
 mod node;
 mod normal;
+mod part;
 mod subst;
+mod typing;
 
 pub use bank::Bank;
 pub use memo::DEPTH;

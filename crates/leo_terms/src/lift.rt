@@ -35,6 +35,9 @@ impl Bank {
         ensures grows { Grows self.old self.new }
     {
         let _ = &self.terms;
+        if self.facts_at(t).loose <= from {
+            return Ok(t);
+        }
         let room = deeper(room)?;
         match self.known_lift(t, from, by) {
             Some(r) => Ok(r),

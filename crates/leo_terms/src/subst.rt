@@ -38,6 +38,9 @@ impl Bank {
         ensures grows { Grows self.old self.new }
     {
         let _ = &self.terms;
+        if self.facts_at(t).variables == 0 {
+            return Ok(t);
+        }
         let room = deeper(room)?;
         let ty = self.ty_of(t);
         match self.top(t) {

@@ -2,6 +2,7 @@ use Rattle.std.proofs.Common.{◌≡◌, ◌+◌, sym, refl, arith, rules}
 use Rattle.leo_terms.specs.Contents.{tree_at, type_at, type_number}
 use Rattle.leo_terms.proofs.TreeLemmas.{lifted-below, lifted-above, IsBoundAt-lifted}
 use Rattle.leo_terms.proofs.Rebuild.{parts-app, parts-lam, parts-logic, bound-lam, part-keeps, argument-keeps, IsSoundNode-leaf, IsTerm-itself, tree-var, tree-sym, tree-bound, tree-app, tree-lam, tree-logic, rebuilt_app, rebuilt_app-sound, rebuilt_lam, rebuilt_lam-sound, rebuilt_logic, rebuilt_logic-sound, argument_number-below, IsArgumentBelow-length}
+use Rattle.leo_terms.proofs.FactLemmas.{lifted-closed}
 use Rattle.leo_terms.proofs.Growth.{IsKept-length}
 use Rattle.leo_terms.proofs.Measures.{argument_size-falls}
 use Rattle.leo_terms.proofs.MemoLemmas.{IsTerm-since}
@@ -121,3 +122,9 @@ lift_from-keep_lift-requires-clause-within m c =
     let h = c.requires.within in
     let l = IsKept-length c.args.self.now.terms c.lift_parts.new.self.terms c.lift_parts.ensures.grows.keeps.terms in
     omega arith
+
+pub lift_from-returns-then-facts_at-from-clause-made : goal.lift_from-returns-then-facts_at-from-clause-made
+lift_from-returns-then-facts_at-from-clause-made m c =
+    let e = c.facts_at.ensures.facts.loose in
+    let h = c.if-facts_at-from.true in
+    IsTerm-itself c.args.self.now c.args.t _ c.requires.within (sym (lifted-closed (tree_at c.args.self.now c.args.t) c.args.from c.args.by (omega arith)))

@@ -11,6 +11,7 @@ invariant_of-result c =
     let s : map symbol_of c.in_ok-copied_symbols.field-0.items ≡ map symbol_of c.self.inside.symbols.items = c.in_ok-copied_symbols.ensures ∙ ap (map symbol_of) c.deref.ensures.value in
     record {
       sound = rw (t, s, u) c.self.invariant.sound;
+      facts = rw (t, s, u, c.in_ok-to_vec.ensures.items_if_clones_equal (λ x y e. e), c.deref-2.ensures.value) c.self.invariant.facts;
       right = AreRight-none _ _ _ _ _ c.new.ensures.empty c.new-2.ensures.empty c.new-3.ensures.empty c.new-4.ensures.empty;
     }
 

@@ -4,6 +4,7 @@ use Rattle.leo_terms.specs.Contents.{Contents, Symbol, Grows}
 use Rattle.leo_terms.specs.BankView.{contents_of}
 use Rattle.leo_terms.proofs.Growth.{grows_by_symbol}
 use Rattle.leo_terms.proofs.MemoLemmas.{AreRight-grows}
+use Rattle.leo_terms.proofs.FactLemmas.{facts-kept}
 use Rattle.leo_terms.proofs.bank.Bank.named_symbol.Goals as goal
 use Rattle.leo_terms.proofs.bank.Bank.named_symbol.Goals.{In_ok-push}
 
@@ -18,7 +19,7 @@ pub invariant_of-self-2 : goal.invariant_of-self-2
 invariant_of-self-2 c =
     let at = (goal.at.invariant_of-self-2 c).In_ok-push in
     let g = grows_inside at in
-    record { sound = g.new_sound; right = AreRight-grows _ _ g _ _ _ _ at.self.invariant.right }
+    record { sound = g.new_sound; facts = facts-kept _ _ _ g refl at.self.invariant.facts; right = AreRight-grows _ _ g _ _ _ _ at.self.invariant.right }
 
 pub returns-clause-grows : goal.returns-clause-grows
 returns-clause-grows c = rw (← c.self.view_is) (grows_inside (goal.at.returns-clause-grows c).In_ok-push)

@@ -1,10 +1,11 @@
-use Rattle.std.proofs.Common.{rules, arith, ◌+◌}
+use Rattle.std.proofs.Common.{rules, arith, ◌+◌, refl}
 use Rattle.leo_terms.specs.declared.node.TyView.TheVariants.{Base}
 use Rattle.leo_terms.specs.Contents.{Grows, AddsShared}
 use Rattle.leo_terms.specs.BankView.{contents_of}
 use Rattle.leo_terms.proofs.Growth.{grows_by_type}
 use Rattle.leo_terms.proofs.ListLemmas.{AddsShared-insert}
 use Rattle.leo_terms.proofs.MemoLemmas.{AreRight-grows}
+use Rattle.leo_terms.proofs.FactLemmas.{facts-kept}
 use Rattle.leo_terms.proofs.bank.Bank.next_base.Goals as goal
 use Rattle.leo_terms.proofs.bank.Bank.next_base.Goals.{In_ok-place}
 
@@ -20,7 +21,7 @@ pub invariant_of-self-2 : goal.invariant_of-self-2
 invariant_of-self-2 c =
     let at = (goal.at.invariant_of-self-2 c).In_ok-place in
     let g = grows_inside at in
-    record { sound = g.new_sound; right = AreRight-grows _ _ g _ _ _ _ at.self.invariant.right }
+    record { sound = g.new_sound; facts = facts-kept _ _ _ g refl at.self.invariant.facts; right = AreRight-grows _ _ g _ _ _ _ at.self.invariant.right }
 
 pub returns-clause-grows : goal.returns-clause-grows
 returns-clause-grows c = rw (← c.self.view_is) (grows_inside (goal.at.returns-clause-grows c).In_ok-place)
