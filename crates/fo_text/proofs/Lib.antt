@@ -11,3 +11,7 @@ pub mod LiteralReading
 pub mod ClauseReading
 pub mod KnownSorts
 pub mod ProblemReading
+pub mod Sequences
+pub mod NumberedLines
+pub mod AnswerPieces
+pub mod AnswerReading

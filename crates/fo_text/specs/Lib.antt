@@ -12,3 +12,6 @@ pub mod Literals
 pub mod Clauses
 pub mod Known
 pub mod Texts
+pub mod AnswerSpellings
+pub mod Answers
+pub mod AnswerReads

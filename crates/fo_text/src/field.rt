@@ -61,6 +61,16 @@ pub(crate) fn behind_first(rest: &[u8], byte: u8) -> &[u8]
     }
 }
 
+/// What is behind a byte, where the input begins with it.
+pub(crate) fn behind_byte(rest: &[u8], byte: u8) -> Option<&[u8]>
+    ensures { MatchOption result (StandsFirst byte rest.now → ⊥) (λ tail. rest.now ≡ byte ∷ tail.now) }
+{
+    match rest.split_first() {
+        Some((first, tail)) => { if *first == byte { Some(tail) } else { None } }
+        None => None,
+    }
+}
+
 /// The number of a line that begins with a word.
 pub(crate) fn field<'a>(
     input: &'a [u8],

@@ -1,8 +1,10 @@
 //! Tests.
 
 use crate::read::read_problem;
+use crate::read_answer::read_answer;
 use crate::refusal::FoRefusal;
 use crate::write::write_problem;
+use crate::write_answer::write_answer;
 use std::alloc::Global;
 use std::test::Fail;
 
@@ -72,5 +74,76 @@ fn sorts_without_terms(rt: HostRuntime) -> Result<(), Fail> {
         ),
         Some(FoRefusal::Bad { byte: 57 })
     );
+    Ok(())
+}
+
+/// Answers: with each step, with beats, and the shortest ones.
+const ANSWERS: [&str; 6] = [
+    "gaveup\n",
+    ".\n.\ngaveup\n",
+    "refuted\n% end\n",
+    "refuted\nd 0 0\n% end\n",
+    ".\nrefuted\np 2 0 l 1 0 l e\nd 3 1\n% end\n",
+    "refuted\ni 0\ni 1 2 0 0 v0 f3 v1\np 12 0 r 4 1 l 0.10.2\nf 5 0 1 r\nd 6 999999999\n% end\n",
+];
+
+/// Whether a text is read, and written as it was.
+fn is_kept(alloc: Global, text: &str) -> Result<bool, Fail> {
+    let answer = read_answer(alloc, text.as_bytes()).ok().ok_or("refused")?;
+    let mut written = Vec::new(alloc);
+    write_answer(&answer, &mut written)?;
+    Ok(written.as_slice() == text.as_bytes())
+}
+
+fn answer_refusal(alloc: Global, text: &[u8]) -> Option<FoRefusal> {
+    read_answer(alloc, text).err()
+}
+
+#[test]
+fn answers_are_written_as_they_were_read(rt: HostRuntime) -> Result<(), Fail> {
+    for text in ANSWERS {
+        assert!(rt; is_kept(rt.alloc(), text)?, "{text}");
+    }
+    Ok(())
+}
+
+#[test]
+fn a_front_of_an_answer_ends_early(rt: HostRuntime) -> Result<(), Fail> {
+    for text in ANSWERS {
+        let bytes = text.as_bytes();
+        for byte in 0..bytes.len() {
+            let (front, _) = bytes.split_at(byte);
+            assert_eq!(rt;
+                answer_refusal(rt.alloc(), front),
+                Some(FoRefusal::Bad { byte })
+            );
+        }
+    }
+    Ok(())
+}
+
+/// Texts that are no answers, with the first byte that is bad.
+const BAD_ANSWERS: [(&str, usize); 10] = [
+    ("x", 0),
+    (".gaveup\n", 1),
+    ("gaveup\n.", 7),
+    ("refuted\nx", 8),
+    ("refuted\nd 00", 11),
+    ("refuted\nd 1234567890", 19),
+    ("refuted\ni 1  ", 12),
+    ("refuted\ni 1 vf", 13),
+    ("refuted\np 0 0 L", 14),
+    ("refuted\np 0 0 l 0 0 r 1.e", 24),
+];
+
+#[test]
+fn the_first_bad_byte_of_an_answer(rt: HostRuntime) -> Result<(), Fail> {
+    for (text, byte) in BAD_ANSWERS {
+        assert_eq!(rt;
+            answer_refusal(rt.alloc(), text.as_bytes()),
+            Some(FoRefusal::Bad { byte }),
+            "{text}"
+        );
+    }
     Ok(())
 }

@@ -1,0 +1,6 @@
+pub mod Nodes
+pub mod SortsOfNodes
+pub mod Paths
+pub mod Concluding
+pub mod Instancing
+pub mod Unique
