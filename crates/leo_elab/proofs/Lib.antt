@@ -1,0 +1,12 @@
+pub mod Standing
+pub mod Places
+pub mod Atoms
+pub mod Tops
+pub mod Forms
+pub mod TypeLaws
+pub mod Entries
+pub mod ByTop
+pub mod MeaningLaw
+pub mod OffencesByTop
+pub mod ConflictLaw
+pub mod OffenceLaw

@@ -1,0 +1,6 @@
+use Rattle.std.proofs.Common.{refl}
+use Rattle.leo_elab.proofs.Places.{added-entries}
+use Rattle.leo_elab.proofs.names.Names.add_constant.Goals as goal
+
+pub returns : goal.returns
+returns c = rw (← c.self.view_is, added-entries (λ v. v.items) c.self.inside.constants c.in_ok-key.key c.args.symbol (rw c.in_ok-key.ensures.items (rw (← c.self.view_is) at c.requires)) c.insert.new.self.entries c.in_ok-insert.ensures.entries, c.in_ok-key.ensures.items) refl

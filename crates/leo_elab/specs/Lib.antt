@@ -1,0 +1,10 @@
+pub mod Problem
+pub mod Signs
+pub mod Meaning
+pub mod Offences
+pub mod Table
+pub mod NamesView
+pub mod Standing
+pub mod Places
+pub mod Declaring
+pub mod FormulaLaws
