@@ -1,0 +1,17 @@
+pub mod Shapes
+pub mod Places
+pub mod Steps
+pub mod Rows
+pub mod Choosing
+pub mod Conditions
+pub mod Symbols
+pub mod Conclusions
+pub mod Acceptance
+pub mod Parts
+pub mod Leaves
+pub mod Visits
+pub mod Truths
+pub mod ByNumber
+pub mod Tops
+pub mod Records
+pub mod Sides

@@ -1,0 +1,23 @@
+//! Which steps of a derivation are accepted: the kernel of the prover.
+#![tactic(auto)]
+
+mod asked;
+mod compare;
+mod conditions;
+mod decompose;
+mod equations;
+mod forms;
+mod fresh;
+mod given;
+mod leaves;
+mod parts;
+mod places;
+mod plain;
+mod reason;
+mod rows;
+mod symbols;
+mod truths;
+mod typed;
+mod types;
+
+pub use reason::{Reason, StepRefusal};
