@@ -70,7 +70,7 @@ going_step s at next found st h e known =
 pub going_refused : (s : Source) (at : ℕ) (found : List Statement) (e : ReadRefusal) → at < length s.tokens.now → read.statement (end_of s) (ahead s at) ≡ Err e → Going s at found → file_outcome (end_of s) (lexemes s.bytes.now s.tokens.now) ≡ refused e
 going_refused s at found e h r known = known.same ∙ statement_outcome s at h ∙ ap (λ x. ends (end_of s) x (statement ∷ [])) r
 
-nothing_ahead : (end : ℕ) → outcome end [] (statement ∷ []) ≡ accepted
+pub nothing_ahead : (end : ℕ) → outcome end [] (statement ∷ []) ≡ accepted
 unfolding outcome
 nothing_ahead end = refl
 
@@ -120,7 +120,7 @@ statement_some (formula_statement {l1 = l1} h r f k) = (h.thf, h.l1, h.takes_thf
 statement_some (typing_statement {l1 = l1} h r f k) = (h.thf, h.l1, h.takes_thf)
 statement_some (include_statement {l1 = l1} b p h i q r) = (b.token, l1, b.ahead_is)
 
-first_outcome : (end : ℕ) {ls after : Ahead} {s : Statement} → IsStatement ls s after → outcome end ls (statement ∷ []) ≡ ends end (read.statement end ls) (statement ∷ [])
+pub first_outcome : (end : ℕ) {ls after : Ahead} {s : Statement} → IsStatement ls s after → outcome end ls (statement ∷ []) ≡ ends end (read.statement end ls) (statement ∷ [])
 first_outcome end {ls} h = let a = statement_some h in rw a.2 (statement_table end a.0 a.1)
 
 pub file_taken : (end : ℕ) (ls : Ahead) (list : List Statement) → IsFile ls list → IsTaken (file_outcome end ls)

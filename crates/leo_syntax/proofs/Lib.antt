@@ -12,3 +12,16 @@ pub mod StatementTable
 pub mod Unique
 pub mod Prefixes
 pub mod Files
+pub mod Nodes
+pub mod WrittenWords
+pub mod WrittenTypes
+pub mod WrittenPlaces
+pub mod WrittenItems
+pub mod WrittenNegations
+pub mod WrittenEquations
+pub mod WrittenJoins
+pub mod WrittenBinders
+pub mod WrittenApplications
+pub mod WrittenFormulas
+pub mod WrittenStatements
+pub mod WrittenFiles

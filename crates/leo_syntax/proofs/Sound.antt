@@ -73,10 +73,10 @@ unfolding sees rest
 mark_sound m end [] = tt
 mark_sound m end (l ∷ ls) = elim (or_false (is_mark m l)) [ inl t ↦ rw t (record { token = l; ahead_is = refl; is_that = t }) | inr f ↦ rw f tt ]
 
-closed_sound : {A : Type 0} (end : ℕ) (r : Read A) (P Q : A → Ahead → Type 0) → IfRead r P → ((a : A) (l1 after : Ahead) → P a l1 → Passes CloseRound l1 after → Q a after) → IfRead (read.closed end r) Q
+pub closed_sound : {A : Type 0} (end : ℕ) (r : Read A) (P Q : A → Ahead → Type 0) → IfRead r P → ((a : A) (l1 after : Ahead) → P a l1 → Passes CloseRound l1 after → Q a after) → IfRead (read.closed end r) Q
 closed_sound end r P Q h next = then_read r _ P Q h (λ a l1 k. then_read (read_mark CloseRound end l1) _ (λ _ after. Passes CloseRound l1 after) Q (mark_sound CloseRound end l1) (λ _ after m. next a l1 after k m))
 
-opened_sound : {A : Type 0} (end left : ℕ) (inner : Ahead → Read A) (ls : Ahead) (P Q : A → Ahead → Type 0) → IfRead (inner ls) P → ((a : A) (l1 after : Ahead) → P a l1 → Passes CloseRound l1 after → Q a after) → IfRead (read.opened end left inner ls) Q
+pub opened_sound : {A : Type 0} (end left : ℕ) (inner : Ahead → Read A) (ls : Ahead) (P Q : A → Ahead → Type 0) → IfRead (inner ls) P → ((a : A) (l1 after : Ahead) → P a l1 → Passes CloseRound l1 after → Q a after) → IfRead (read.opened end left inner ls) Q
 opened_sound end left inner ls P Q h next = then_skip (read_level end left ls) _ Q (then_skip (read_guard guard.BehindBracket end ls) _ Q (closed_sound end (inner ls) P Q h next))
 
 -- ---- types
@@ -109,7 +109,7 @@ type_sound end (suc left) ls = type_by end left (read.ty end left) (type_sound e
 
 -- ---- variables
 
-variable_sound : (end left : ℕ) (ls : Ahead) → IfRead (read.variable end left ls) (IsVariable ls)
+pub variable_sound : (end left : ℕ) (ls : Ahead) → IfRead (read.variable end left ls) (IsVariable ls)
 unfolding read.variable
 variable_sound end left ls =
     then_read (read_said upper_of end ls) _ (λ name after. Says upper_of ls name after) (IsVariable ls) (says_sound upper_of end ls) (λ name l1 h.
@@ -357,12 +357,12 @@ annotations_sound end (l ∷ ls) = elim (or_false (is_mark Comma l)) [
   | inr f ↦ rw f (λ l2 after p q. bare p q)
 ]
 
-ended_sound : (end : ℕ) (ls : Ahead) → IfRead (read.ended end ls) (λ _ after. (l1 : Ahead) × Passes CloseRound ls l1 × Passes Dot l1 after)
+pub ended_sound : (end : ℕ) (ls : Ahead) → IfRead (read.ended end ls) (λ _ after. (l1 : Ahead) × Passes CloseRound ls l1 × Passes Dot l1 after)
 unfolding read.ended
 ended_sound end ls = then_read (read_mark CloseRound end ls) _ (λ _ after. Passes CloseRound ls after) (λ _ after. (l1 : Ahead) × Passes CloseRound ls l1 × Passes Dot l1 after) (mark_sound CloseRound end ls) (λ _ l1 m.
     then_same (read_mark Dot end l1) (λ _ after. Passes Dot l1 after) (λ _ after. (l1 : Ahead) × Passes CloseRound ls l1 × Passes Dot l1 after) (mark_sound Dot end l1) (λ _ after k. (l1, m, k)))
 
-ending_sound : (end : ℕ) (ls : Ahead) → IfRead (read.ending end ls) (λ _ after. IsEnding ls after)
+pub ending_sound : (end : ℕ) (ls : Ahead) → IfRead (read.ending end ls) (λ _ after. IsEnding ls after)
 unfolding read.ending
 ending_sound end ls = then_read (read.annotations end ls) _ (λ _ l1. Behind ls l1) (λ _ after. IsEnding ls after) (annotations_sound end ls) (λ _ l1 h.
     then_same (read.ended end l1) (λ _ after. (l2 : Ahead) × Passes CloseRound l1 l2 × Passes Dot l2 after) (λ _ after. IsEnding ls after) (ended_sound end l1) (λ _ after k. h k.0 after k.1 k.2))
@@ -417,7 +417,7 @@ selected_sound end (l ∷ ls) = elim (or_false (is_mark CloseSquare l)) [
   | inr f ↦ rw f (some_selected end (l ∷ ls))
 ]
 
-selection_sound : (end : ℕ) (ls : Ahead) → IfRead (read.selection end ls) (IsSelection ls)
+pub selection_sound : (end : ℕ) (ls : Ahead) → IfRead (read.selection end ls) (IsSelection ls)
 unfolding read.selection sees rest
 selection_sound end [] = whole refl
 selection_sound end (l ∷ ls) = elim (or_false (is_mark Comma l)) [

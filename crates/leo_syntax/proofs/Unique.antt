@@ -43,7 +43,7 @@ Reads (Ok p) a after = (p.0 ≡ a) × (p.1 ≡ after)
 Reads (Err e) a after = IsDeep e
 
 -- a reader that refuses only what is nested too deep
-abbrev OnlyDeep : {A : Type 0} → Read A → Type 0
+abbrev pub OnlyDeep : {A : Type 0} → Read A → Type 0
 OnlyDeep (Ok p) = Unit {0}
 OnlyDeep (Err e) = IsDeep e
 
@@ -57,15 +57,15 @@ reads_skip (Err e) f b after o h = o
 
 -- ---- the next token
 
-taken : {c : Class} {ls after : Ahead} → Takes c ls after → (class_at ls ≡ c) × (rest ls ≡ after)
+pub taken : {c : Class} {ls after : Ahead} → Takes c ls after → (class_at ls ≡ c) × (rest ls ≡ after)
 unfolding class_at rest
 taken h = rw h.ahead_is (h.class_is, refl)
 
-passed : {m : Mark} {ls after : Ahead} → Passes m ls after → (sees m ls ≡ true) × (rest ls ≡ after)
+pub passed : {m : Mark} {ls after : Ahead} → Passes m ls after → (sees m ls ≡ true) × (rest ls ≡ after)
 unfolding sees rest
 passed h = rw h.ahead_is (h.is_that, refl)
 
-said : {A : Type 0} {f : Lexeme → Option A} {ls after : Ahead} {a : A} → Says f ls a after → (read.said_at f ls ≡ Some a) × (rest ls ≡ after)
+pub said : {A : Type 0} {f : Lexeme → Option A} {ls after : Ahead} {a : A} → Says f ls a after → (read.said_at f ls ≡ Some a) × (rest ls ≡ after)
 unfolding read.said_at rest
 said h = rw h.ahead_is (h.said, refl)
 
@@ -78,34 +78,34 @@ said_reads f end ls after a h = let p = said h in rw (p.0, p.1) (refl, refl)
 -- ---- what may stand behind a part
 
 -- a `(` behind an atom is refused
-abbrev is_open : Class → Bool
+abbrev pub is_open : Class → Bool
 is_open class.Open = true
 is_open _ = false
 
 -- behind a type more is
-abbrev extends_type : Class → Bool
+abbrev pub extends_type : Class → Bool
 extends_type class.Open = true
 extends_type class.Apply = true
 extends_type class.Star = true
 extends_type _ = false
 
 -- what closes a part, or parts it from the next
-abbrev closes_part : Class → Bool
+abbrev pub closes_part : Class → Bool
 closes_part class.Close = true
 closes_part class.Other = true
 closes_part _ = false
 
-closes_type : (k : Class) → closes_part k ≡ true → extends_type k ≡ false
+pub closes_type : (k : Class) → closes_part k ≡ true → extends_type k ≡ false
 closes_type class.Close e = refl
 closes_type class.Other e = refl
 closes_type _ e = absurd cc
 
-closes_term : (k : Class) → closes_part k ≡ true → is_open k ≡ false
+pub closes_term : (k : Class) → closes_part k ≡ true → is_open k ≡ false
 closes_term class.Close e = refl
 closes_term class.Other e = refl
 closes_term _ e = absurd cc
 
-round_mark : (m : Mark) → same_mark m CloseRound ≡ true → closes_part (mark_class m) ≡ true
+pub round_mark : (m : Mark) → same_mark m CloseRound ≡ true → closes_part (mark_class m) ≡ true
 unfolding same_mark mark_class
 round_mark CloseRound e = refl
 round_mark _ e = absurd cc
@@ -129,21 +129,21 @@ closes_at : (closer : Mark) → ((m : Mark) → same_mark m closer ≡ true → 
 unfolding class_at
 closes_at closer known h = rw h.ahead_is (mark_kind closer known h.token.kind h.token.text h.is_that)
 
-round_closes : {ls after : Ahead} → Passes CloseRound ls after → closes_part (class_at ls) ≡ true
+pub round_closes : {ls after : Ahead} → Passes CloseRound ls after → closes_part (class_at ls) ≡ true
 round_closes h = closes_at CloseRound round_mark h
 
-square_closes : {ls after : Ahead} → Passes CloseSquare ls after → closes_part (class_at ls) ≡ true
+pub square_closes : {ls after : Ahead} → Passes CloseSquare ls after → closes_part (class_at ls) ≡ true
 square_closes h = closes_at CloseSquare square_mark h
 
-comma_closes : {ls after : Ahead} → Passes Comma ls after → closes_part (class_at ls) ≡ true
+pub comma_closes : {ls after : Ahead} → Passes Comma ls after → closes_part (class_at ls) ≡ true
 comma_closes h = closes_at Comma comma_mark h
 
-guard_passes : (g : Guard) (end : ℕ) (ls : Ahead) → guard_form g (class_at ls) ≡ None → OnlyDeep (read_guard g end ls)
+pub guard_passes : (g : Guard) (end : ℕ) (ls : Ahead) → guard_form g (class_at ls) ≡ None → OnlyDeep (read_guard g end ls)
 unfolding read_guard class_at
 guard_passes g end [] e = tt
 guard_passes g end (l ∷ ls) e = rw e tt
 
-type_passes : (end : ℕ) (ls : Ahead) → extends_type (class_at ls) ≡ false → OnlyDeep (read_guard guard.BehindType end ls)
+pub type_passes : (end : ℕ) (ls : Ahead) → extends_type (class_at ls) ≡ false → OnlyDeep (read_guard guard.BehindType end ls)
 unfolding guard_form
 type_passes end ls e = guard_passes guard.BehindType end ls (by (class_at ls) e)
   where
@@ -153,7 +153,7 @@ type_passes end ls e = guard_passes guard.BehindType end ls (by (class_at ls) e)
     by class.Star e = absurd cc
     by _ e = refl
 
-atom_passes : (end : ℕ) (ls : Ahead) → is_open (class_at ls) ≡ false → OnlyDeep (read_guard guard.BehindAtom end ls)
+pub atom_passes : (end : ℕ) (ls : Ahead) → is_open (class_at ls) ≡ false → OnlyDeep (read_guard guard.BehindAtom end ls)
 unfolding guard_form
 atom_passes end ls e = guard_passes guard.BehindAtom end ls (by (class_at ls) e)
   where
@@ -161,7 +161,7 @@ atom_passes end ls e = guard_passes guard.BehindAtom end ls (by (class_at ls) e)
     by class.Open e = absurd cc
     by _ e = refl
 
-bracket_passes : (end : ℕ) (ls : Ahead) → is_equal (class_at ls) ≡ false → OnlyDeep (read_guard guard.BehindBracket end ls)
+pub bracket_passes : (end : ℕ) (ls : Ahead) → is_equal (class_at ls) ≡ false → OnlyDeep (read_guard guard.BehindBracket end ls)
 unfolding guard_form
 bracket_passes end ls e = guard_passes guard.BehindBracket end ls (by (class_at ls) e)
   where
@@ -171,7 +171,7 @@ bracket_passes end ls e = guard_passes guard.BehindBracket end ls (by (class_at 
 
 -- ---- what stands beyond the last level
 
-abbrev real : Class → Bool
+abbrev pub real : Class → Bool
 real class.Other = false
 real _ = true
 
@@ -201,21 +201,21 @@ unfolding class_by said_by
 upper_class kind.Upper text a e = refl
 upper_class _ text a e = absurd cc
 
-says_atom : {ls after : Ahead} {a : List ℕ} → Says atom_of ls a after → class_at ls ≡ class.Atom
+pub says_atom : {ls after : Ahead} {a : List ℕ} → Says atom_of ls a after → class_at ls ≡ class.Atom
 unfolding class_at
 says_atom {a = a} h = rw h.ahead_is (atom_class h.token.kind h.token.text a h.said)
 
-says_upper : {ls after : Ahead} {a : List ℕ} → Says upper_of ls a after → class_at ls ≡ class.Variable
+pub says_upper : {ls after : Ahead} {a : List ℕ} → Says upper_of ls a after → class_at ls ≡ class.Variable
 unfolding class_at
 says_upper {a = a} h = rw h.ahead_is (upper_class h.token.kind h.token.text a h.said)
 
 -- ---- types
 
-no_arrow : (k : Class) → is_arrow k ≡ false → (inner : Ahead → Read TypeTree) (byte : ℕ) (from : TypeTree) (ls : Ahead) → Reads (read.arrow_by k inner byte from ls) from ls
+pub no_arrow : (k : Class) → is_arrow k ≡ false → (inner : Ahead → Read TypeTree) (byte : ℕ) (from : TypeTree) (ls : Ahead) → Reads (read.arrow_by k inner byte from ls) from ls
 no_arrow class.Arrow e inner byte from ls = absurd cc
 no_arrow _ e inner byte from ls = (refl, refl)
 
-abbrev begins_type : Class → Bool
+abbrev pub begins_type : Class → Bool
 begins_type class.Atom = true
 begins_type class.Individual = true
 begins_type class.Truth = true
@@ -230,11 +230,11 @@ operand_begins (truth h) = rw (taken h).0 refl
 operand_begins (type_of_types h) = rw (taken h).0 refl
 operand_begins (type_brackets h i p) = rw (taken h).0 refl
 
-type_begins : {ls after : Ahead} {t : TypeTree} → IsType ls t after → begins_type (class_at ls) ≡ true
+pub type_begins : {ls after : Ahead} {t : TypeTree} → IsType ls t after → begins_type (class_at ls) ≡ true
 type_begins (operand h e) = operand_begins h
 type_begins (function h t k) = operand_begins h
 
-type_real : (k : Class) → begins_type k ≡ true → (real k ≡ true) × (is_equal k ≡ false)
+pub type_real : (k : Class) → begins_type k ≡ true → (real k ≡ true) × (is_equal k ≡ false)
 type_real class.Other e = absurd cc
 type_real (class.Equal s) e = absurd cc
 type_real _ e = (refl, refl)
@@ -261,7 +261,7 @@ type_by end left known (function {ls = ls} {l1 = l1} {l2 = l2} {after = after} {
     reads_then (read.operand_type_with end left (read.ty end left) ls) _ from l1 _ after (operand_reads end left (read.ty end left) known h)
     (reads_skip (read_guard guard.BehindType end l1) _ _ after (type_passes end l1 free) (rw (m.0, m.1) (reads_then (read.ty end left l2) _ to after _ after (known l2 after to k q) (refl, refl))))
 
-type_reads : (end left : ℕ) (ls after : Ahead) (t : TypeTree) → IsType ls t after → extends_type (class_at after) ≡ false → Reads (read.ty end left ls) t after
+pub type_reads : (end left : ℕ) (ls after : Ahead) (t : TypeTree) → IsType ls t after → extends_type (class_at after) ≡ false → Reads (read.ty end left ls) t after
 unfolding read.ty
 type_reads end zero ls after t h q = is_deep end ls (type_real (class_at ls) (type_begins h)).0
 type_reads end (suc left) ls after t h q = type_by end left (type_reads end left) h q
@@ -277,13 +277,13 @@ variable_reads end left (variable {ls = ls} {l1 = l1} {l2 = l2} {after = after} 
 
 -- a part takes a token at least
 
-takes_less : {c : Class} {ls after : Ahead} → Takes c ls after → length after < length ls
+pub takes_less : {c : Class} {ls after : Ahead} → Takes c ls after → length after < length ls
 takes_less h = rw h.ahead_is (omega arith)
 
-passes_less : {m : Mark} {ls after : Ahead} → Passes m ls after → length after < length ls
+pub passes_less : {m : Mark} {ls after : Ahead} → Passes m ls after → length after < length ls
 passes_less h = rw h.ahead_is (omega arith)
 
-says_less : {A : Type 0} {f : Lexeme → Option A} {ls after : Ahead} {a : A} → Says f ls a after → length after < length ls
+pub says_less : {A : Type 0} {f : Lexeme → Option A} {ls after : Ahead} {a : A} → Says f ls a after → length after < length ls
 says_less h = rw h.ahead_is (omega arith)
 
 mutual
@@ -294,11 +294,11 @@ mutual
   operand_less (type_of_types h) = takes_less h
   operand_less (type_brackets h i p) = omega (arith, takes_less h, type_less i, passes_less p)
 
-  type_less : {ls after : Ahead} {t : TypeTree} → IsType ls t after → length after < length ls
+  pub type_less : {ls after : Ahead} {t : TypeTree} → IsType ls t after → length after < length ls
   type_less (operand h e) = operand_less h
   type_less (function h t k) = omega (arith, operand_less h, takes_less t, type_less k)
 
-variable_less : {ls after : Ahead} {v : Variable} → IsVariable ls v after → length after < length ls
+pub variable_less : {ls after : Ahead} {v : Variable} → IsVariable ls v after → length after < length ls
 variable_less (variable h p k) = omega (arith, says_less h, passes_less p, type_less k)
 
 variables_some : {ls after : Ahead} {vs : List Variable} → AreVariables ls vs after → 0 < length ls
@@ -316,19 +316,19 @@ variables_reads (suc n) end left (next_variable {ls = ls} {l1 = l1} {l2 = l2} {a
 
 -- ---- what a part begins with
 
-abbrev begins_item : Class → Bool
+abbrev pub begins_item : Class → Bool
 begins_item class.Atom = true
 begins_item class.Variable = true
 begins_item (class.Symbol s) = true
 begins_item class.Open = true
 begins_item _ = false
 
-abbrev begins_unary : Class → Bool
+abbrev pub begins_unary : Class → Bool
 begins_unary class.Not = true
 begins_unary (class.Bind b) = true
 begins_unary k = begins_item k
 
-item_begins : {ls after : Ahead} {tree : Tree} → IsItem ls tree after → begins_item (class_at ls) ≡ true
+pub item_begins : {ls after : Ahead} {tree : Tree} → IsItem ls tree after → begins_item (class_at ls) ≡ true
 item_begins (atom h) = rw (says_atom h) refl
 item_begins (variable_item h) = rw (says_upper h) refl
 item_begins (symbol_item h) = rw (taken h).0 refl
@@ -336,10 +336,10 @@ item_begins (negation_sign h k m) = rw (taken h).0 refl
 item_begins (connective_sign h k m) = rw (taken h).0 refl
 item_begins (brackets h k m) = rw (taken h).0 refl
 
-application_begins : {ls after : Ahead} {tree : Tree} → IsApplication ls tree after → begins_item (class_at ls) ≡ true
+pub application_begins : {ls after : Ahead} {tree : Tree} → IsApplication ls tree after → begins_item (class_at ls) ≡ true
 application_begins (application i a) = item_begins i
 
-item_unary : (k : Class) → begins_item k ≡ true → begins_unary k ≡ true
+pub item_unary : (k : Class) → begins_item k ≡ true → begins_unary k ≡ true
 item_unary class.Not e = refl
 item_unary (class.Bind b) e = refl
 item_unary _ e = e
@@ -347,13 +347,13 @@ item_unary _ e = e
 binder_class : {ls after : Ahead} {tree : Tree} → IsBinder ls tree after → (b : Binder) × (class_at ls ≡ class.Bind b)
 binder_class (binder {b = b} t p vs q r u) = (b, (taken t).0)
 
-unary_begins : {ls after : Ahead} {tree : Tree} → IsUnary ls tree after → begins_unary (class_at ls) ≡ true
+pub unary_begins : {ls after : Ahead} {tree : Tree} → IsUnary ls tree after → begins_unary (class_at ls) ≡ true
 unary_begins (negated (negation t u)) = rw (taken t).0 refl
 unary_begins (bound h) = rw (binder_class h).1 refl
 unary_begins {ls} (term a e) = item_unary (class_at ls) (application_begins a)
 unary_begins {ls} (equation a t s) = item_unary (class_at ls) (application_begins a)
 
-not_close : (k : Class) → begins_unary k ≡ true → read.is_close k ≡ false
+pub not_close : (k : Class) → begins_unary k ≡ true → read.is_close k ≡ false
 not_close class.Close e = absurd cc
 not_close _ e = refl
 
@@ -361,7 +361,7 @@ tilde_by : (ls : Ahead) → class_at ls ≡ class.Not → begins_item (class_at 
 tilde_by ls e h = let f : begins_item class.Not ≡ true = subst (λ k. begins_item k ≡ true) e h in absurd cc
 
 -- no bracket closes behind a `~` that begins a unary
-open_tilde : {ls after : Ahead} {tree : Tree} → IsUnary ls tree after → class_at ls ≡ class.Not → read.is_close (class_at (rest ls)) ≡ false
+pub open_tilde : {ls after : Ahead} {tree : Tree} → IsUnary ls tree after → class_at ls ≡ class.Not → read.is_close (class_at (rest ls)) ≡ false
 open_tilde (negated (negation {l1 = l1} t u)) e = rw (taken t).1 (not_close (class_at l1) (unary_begins u))
 open_tilde {ls} (bound h) e = let f = (binder_class h).1 in absurd cc
 open_tilde {ls} (term a f) e = absurd (tilde_by ls e (application_begins a))
@@ -384,36 +384,36 @@ arguments_front (none e) q = q
 arguments_front (more t i a) q = rw (taken t).0 refl
 arguments_front (binder_last t b) q = rw (taken t).0 refl
 
-formula_front : {ls after : Ahead} {tree : Tree} → IsFormula ls tree after → (begins_unary (class_at ls) ≡ true) × (class_at ls ≡ class.Not → read.is_close (class_at (rest ls)) ≡ false)
+pub formula_front : {ls after : Ahead} {tree : Tree} → IsFormula ls tree after → (begins_unary (class_at ls) ≡ true) × (class_at ls ≡ class.Not → read.is_close (class_at (rest ls)) ≡ false)
 formula_front (alone u e) = (unary_begins u, open_tilde u)
 formula_front (chain k u t o) = (unary_begins u, open_tilde u)
 formula_front (pair k u t o) = (unary_begins u, open_tilde u)
 
 -- ---- formulas
 
-begin_default : (k : Class) → begins_item k ≡ true → (n : Ahead → Read Tree) (b : Binder → Ahead → Read Tree) (a : Ahead → Read Tree) (f : Tree → Ahead → Read Tree) (ls : Ahead) → read.begin_by k n b a f ls ≡ and_then (a ls) f
+pub begin_default : (k : Class) → begins_item k ≡ true → (n : Ahead → Read Tree) (b : Binder → Ahead → Read Tree) (a : Ahead → Read Tree) (f : Tree → Ahead → Read Tree) (ls : Ahead) → read.begin_by k n b a f ls ≡ and_then (a ls) f
 begin_default class.Not e n b a f ls = absurd cc
 begin_default (class.Bind x) e n b a f ls = absurd cc
 begin_default _ e n b a f ls = refl
 
-argument_default : (k : Class) → begins_item k ≡ true → (end : ℕ) (b : Binder → Ahead → Read Tree) (i : ℕ → Ahead → Read Tree) (a : List Tree → Ahead → Read (List Tree)) (found : List Tree) (ls : Ahead)
+pub argument_default : (k : Class) → begins_item k ≡ true → (end : ℕ) (b : Binder → Ahead → Read Tree) (i : ℕ → Ahead → Read Tree) (a : List Tree → Ahead → Read (List Tree)) (found : List Tree) (ls : Ahead)
     → read.argument_by k end b i a found ls ≡ and_then (read.item_with end i ls) (λ argument. a (found ++ argument ∷ []))
 argument_default (class.Bind x) e end b i a found ls = absurd cc
 argument_default _ e end b i a found ls = refl
 
-no_equation : (k : Class) → is_equal k ≡ false → (end : ℕ) (side : Ahead → Read Tree) (byte : ℕ) (first : Tree) (ls : Ahead) → Reads (read.equation_by k end side byte first ls) first ls
+pub no_equation : (k : Class) → is_equal k ≡ false → (end : ℕ) (side : Ahead → Read Tree) (byte : ℕ) (first : Tree) (ls : Ahead) → Reads (read.equation_by k end side byte first ls) first ls
 no_equation (class.Equal s) e end side byte first ls = absurd cc
 no_equation _ e end side byte first ls = (refl, refl)
 
-no_argument : (k : Class) → is_apply k ≡ false → (argument : List Tree → Ahead → Read (List Tree)) (found : List Tree) (ls : Ahead) → Reads (read.arguments_by k argument found ls) found ls
+pub no_argument : (k : Class) → is_apply k ≡ false → (argument : List Tree → Ahead → Read (List Tree)) (found : List Tree) (ls : Ahead) → Reads (read.arguments_by k argument found ls) found ls
 no_argument class.Apply e argument found ls = absurd cc
 no_argument _ e argument found ls = (refl, refl)
 
-no_operator : (k : Class) → is_join k ≡ false → (u : Ahead → Read Tree) (o : Connective → Ahead → Read Tree) (byte : ℕ) (first : Tree) (ls : Ahead) → Reads (read.operators_by k u o byte first ls) first ls
+pub no_operator : (k : Class) → is_join k ≡ false → (u : Ahead → Read Tree) (o : Connective → Ahead → Read Tree) (byte : ℕ) (first : Tree) (ls : Ahead) → Reads (read.operators_by k u o byte first ls) first ls
 no_operator (class.Join c) e u o byte first ls = absurd cc
 no_operator _ e u o byte first ls = (refl, refl)
 
-continues_chain : (c : Connective) → is_chain c ≡ true → continues c (class.Join c) ≡ true
+pub continues_chain : (c : Connective) → is_chain c ≡ true → continues c (class.Join c) ≡ true
 continues_chain Or e = refl
 continues_chain And e = refl
 continues_chain _ e = absurd cc
@@ -619,7 +619,7 @@ unfolding is_mark_kind
 close_kind (kind.Mark m) e = close_mark m e
 close_kind _ e = absurd cc
 
-no_comma : {ls after : Ahead} → Passes CloseRound ls after → sees Comma ls ≡ false
+pub no_comma : {ls after : Ahead} → Passes CloseRound ls after → sees Comma ls ≡ false
 unfolding sees
 no_comma h = rw h.ahead_is (close_kind h.token.kind h.is_that)
 
@@ -627,7 +627,7 @@ ending_closes : {ls after : Ahead} → IsEnding ls after → closes_part (class_
 ending_closes (bare p q) = round_closes p
 ending_closes (with_annotations c e a p q) = comma_closes c
 
-ended_reads : (end : ℕ) {ls l1 after : Ahead} → Passes CloseRound ls l1 → Passes Dot l1 after → Reads (read.ended end ls) tt after
+pub ended_reads : (end : ℕ) {ls l1 after : Ahead} → Passes CloseRound ls l1 → Passes Dot l1 after → Reads (read.ended end ls) tt after
 unfolding read.ended
 ended_reads end {ls} {l1} {after} p q = reads_then (read_mark CloseRound end ls) _ tt l1 tt after (mark_reads CloseRound end ls l1 p) (mark_reads Dot end l1 after q)
 
@@ -646,12 +646,12 @@ names_reads end (next_name {ls = ls} {l1 = l1} {l2 = l2} {after = after} {name =
     let m = passed p in
     rw (names_next end ls) (reads_then (read_said name_of end ls) _ label l1 _ after (said_reads name_of end ls l1 label h) (rw (m.0, m.1) (reads_then (read.names end l2) _ others after _ after (names_reads end k) (refl, refl))))
 
-name_kind : (k : Kind) (text a : List ℕ) → said_by says.Name k text ≡ Some a → is_mark_kind CloseSquare k ≡ false
+pub name_kind : (k : Kind) (text a : List ℕ) → said_by says.Name k text ≡ Some a → is_mark_kind CloseSquare k ≡ false
 unfolding said_by is_mark_kind
 name_kind (kind.Mark m) text a e = absurd cc
 name_kind _ text a e = refl
 
-name_opens : {ls after : Ahead} {found : List (List ℕ)} → AreNames ls found after → sees CloseSquare ls ≡ false
+pub name_opens : {ls after : Ahead} {found : List (List ℕ)} → AreNames ls found after → sees CloseSquare ls ≡ false
 unfolding sees
 name_opens (last_name {name = label} h e) = rw h.ahead_is (name_kind h.token.kind h.token.text label h.said)
 name_opens (next_name {name = label} h p k) = rw h.ahead_is (name_kind h.token.kind h.token.text label h.said)
@@ -673,7 +673,7 @@ unfolding class_by said_by
 quoted_class kind.Quoted text a e = refl
 quoted_class _ text a e = absurd cc
 
-says_quoted : {ls after : Ahead} {a : List ℕ} → Says quoted_of ls a after → class_at ls ≡ class.Atom
+pub says_quoted : {ls after : Ahead} {a : List ℕ} → Says quoted_of ls a after → class_at ls ≡ class.Atom
 unfolding class_at
 says_quoted {a = a} h = rw h.ahead_is (quoted_class h.token.kind h.token.text a h.said)
 
@@ -684,7 +684,7 @@ name_class kind.Quoted text a e = refl
 name_class kind.Number text a e = refl
 name_class _ text a e = absurd cc
 
-says_name : {ls after : Ahead} {a : List ℕ} → Says name_of ls a after → is_equal (class_at ls) ≡ false
+pub says_name : {ls after : Ahead} {a : List ℕ} → Says name_of ls a after → is_equal (class_at ls) ≡ false
 unfolding class_at
 says_name {a = a} h = rw h.ahead_is (name_class h.token.kind h.token.text a h.said)
 

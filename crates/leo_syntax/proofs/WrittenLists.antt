@@ -5,7 +5,7 @@ use Rattle.std.proofs.lemmas.Bool.Decides.{nat_tests}
 use Rattle.leo_syntax.specs.declared.tree.Tree.{Tree}
 use Rattle.leo_syntax.specs.declared.writing.Place.{Place}
 use Rattle.leo_syntax.specs.declared.writing.Place.TheVariants.{Item}
-use Rattle.leo_syntax.specs.Texts.{word, character, escaped, writer, arguments_written}
+use Rattle.leo_syntax.specs.Texts.{word, character, escaped, writer, written, arguments_written}
 use Rattle.std.proofs.Math.Seq.{drop-cons}
 use Rattle.std.proofs.Math.ListN.{drop_of_length-le}
 
@@ -51,7 +51,7 @@ abbrev place_before : Place → List Tree → Place
 place_before end [] = end
 place_before end (_ ∷ _) = Item
 
-argument_first : (end : Place) (x : Tree) (xs : List Tree) → arguments_written end (map writer (x ∷ xs)) ≡ word (codes "@") ++ (writer x (place_before end xs) ++ arguments_written end (map writer xs))
+argument_first : (end : Place) (x : Tree) (xs : List Tree) → arguments_written end (map writer (x ∷ xs)) ≡ word (codes "@") ++ (written (place_before end xs) x ++ arguments_written end (map writer xs))
 argument_first end x [] = refl
 argument_first end x (y ∷ ys) = refl
 
@@ -62,12 +62,12 @@ place_is end p list i d h one others = elim (le_or (i + 1) (length list)) [
 ]
 
 pub argument_next : (end p : Place) (list : List Tree) (i : ℕ) (x : Tree) (out whole : List ℕ) → i < length list → x ≡ get_or list i x → (i + 1 ≡ length list → p ≡ end) → (i + 1 < length list → p ≡ Item) → out ++ arguments_written end (map writer (drop i list)) ≡ whole
-    → ((out ++ word (codes "@")) ++ writer x p) ++ arguments_written end (map writer (drop (i + 1) list)) ≡ whole
+    → ((out ++ word (codes "@")) ++ written p x) ++ arguments_written end (map writer (drop (i + 1) list)) ≡ whole
 argument_next end p list i x out whole h e one others k =
     let xs = drop (i + 1) list in
-    append_assoc (out ++ word (codes "@")) (writer x p) (arguments_written end (map writer xs))
-    ∙ append_assoc out (word (codes "@")) (writer x p ++ arguments_written end (map writer xs))
-    ∙ ap (λ q. out ++ (word (codes "@") ++ (writer x q ++ arguments_written end (map writer xs)))) (place_is end p list i x h one others)
+    append_assoc (out ++ word (codes "@")) (written p x) (arguments_written end (map writer xs))
+    ∙ append_assoc out (word (codes "@")) (written p x ++ arguments_written end (map writer xs))
+    ∙ ap (λ q. out ++ (word (codes "@") ++ (written q x ++ arguments_written end (map writer xs)))) (place_is end p list i x h one others)
     ∙ ap (λ y. out ++ y) (sym (ap (λ ys. arguments_written end (map writer ys)) (drop_next list i x h ∙ ap (λ y. y ∷ xs) (sym e)) ∙ argument_first end x xs)) ∙ k
 
 pub argument_end : (end : Place) (list : List Tree) (i : ℕ) (out whole : List ℕ) → length list ≤ i → out ++ arguments_written end (map writer (drop i list)) ≡ whole → out ≡ whole

@@ -7,3 +7,5 @@ pub mod Prefix
 pub mod Reading
 pub mod Source
 pub mod Texts
+pub mod Bare
+pub mod RoundTrip

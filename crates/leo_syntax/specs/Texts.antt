@@ -20,7 +20,7 @@ use Rattle.leo_syntax.specs.declared.tree.Statement.TheVariants as statement
 use Rattle.leo_syntax.specs.declared.tree.Node.TheOpen.{Node-F, Tree-F}
 use Rattle.leo_syntax.specs.declared.tree.Node.TheFolds.{fold-Tree}
 use Rattle.leo_syntax.specs.declared.writing.Place.{Place}
-use Rattle.leo_syntax.specs.declared.writing.Place.TheVariants.{Formula, Operand, Chain, Side, Left, Last, Item}
+use Rattle.leo_syntax.specs.declared.writing.Place.TheVariants.{Formula, Operand, SealedOperand, Chain, Side, SealedSide, Left, Last, SealedLast, Item}
 use Rattle.leo_syntax.specs.Grammar.{is_chain}
 
 -- ---- words
@@ -129,61 +129,99 @@ joins (Chain connective.Or) connective.Or = true
 joins (Chain connective.And) connective.And = true
 joins _ c = false
 
-abbrev pub negates : Place → Bool
-negates Left = false
-negates Last = false
-negates Item = false
-negates _ = true
+-- where nothing may take the mark of an equation that stands behind it
+abbrev pub is_sealed : Place → Bool
+is_sealed SealedOperand = true
+is_sealed SealedSide = true
+is_sealed SealedLast = true
+is_sealed _ = false
 
-abbrev pub binds : Place → Bool
-binds Left = false
-binds Item = false
-binds _ = true
+-- An operand that ends in an equation takes no mark. The second argument says whether the operand of the `~` does.
+abbrev pub negates : Place → Bool → Bool
+negates Left ends = false
+negates Last ends = false
+negates SealedLast ends = false
+negates Item ends = false
+negates SealedSide ends = ends
+negates _ ends = true
+
+abbrev pub binds : Place → Bool → Bool
+binds Left ends = false
+binds Item ends = false
+binds SealedSide ends = ends
+binds SealedLast ends = ends
+binds _ ends = true
 
 abbrev pub equates : Place → Bool
 equates Formula = true
 equates Operand = true
+equates SealedOperand = true
 equates (Chain c) = true
 equates _ = false
 
 abbrev pub applies : Place → Bool
 applies Last = false
+applies SealedLast = false
 applies Item = false
 applies _ = true
 
--- The body of a binder would take the mark of an equation, so a binder that is the last argument on its left side is in brackets.
+-- what stands last in a part at that place: behind `~` or a binder that stands without brackets, on the right side of an
+-- equation, and at the end of an application
+
+abbrev pub operand_of : Place → Bool → Place
+operand_of p stands = if stands && is_sealed p then SealedOperand else Operand
+
+abbrev pub side_of : Place → Place
+side_of SealedOperand = SealedSide
+side_of _ = Side
+
 abbrev pub last_of : Place → Place
-last_of Left = Item
+last_of Left = SealedLast
+last_of SealedSide = SealedLast
 last_of _ = Last
 
 abbrev pub right_of : Connective → Place
 right_of c = if is_chain c then Chain c else Operand
 
--- how a tree is written, by its place
-abbrev pub Writer : Type 0
-Writer = Place → List ℕ
+-- how a tree is written, by its place, and whether its text as an operand ends in an equation
+pub record Writer : Type 0 where
+  pub at : Place → List ℕ
+  pub ends : Bool
 
 abbrev pub arguments_written : Place → List Writer → List ℕ
 arguments_written place [] = []
-arguments_written place (a ∷ []) = word (codes "@") ++ (a place ++ [])
-arguments_written place (a ∷ b ∷ more) = word (codes "@") ++ (a Item ++ arguments_written place (b ∷ more))
+arguments_written place (a ∷ []) = word (codes "@") ++ (a.at place ++ [])
+arguments_written place (a ∷ b ∷ more) = word (codes "@") ++ (a.at Item ++ arguments_written place (b ∷ more))
+
+-- each part that is no operand by itself
+abbrev pub open_ended : (Place → List ℕ) → Writer
+open_ended at = record { at = at; ends = false }
 
 -- one node, with the writer of each part
 abbrev pub node_written : Node-F Writer Writer → Writer
-node_written (Node-F.Atom name) p = word (atom_text name)
-node_written (Node-F.Var name) p = word name
-node_written Node-F.True p = word (codes "$true")
-node_written Node-F.False p = word (codes "$false")
-node_written (Node-F.Apply f list) p = opened (applies p) ++ (f Item ++ (arguments_written (last_of p) list ++ closed (applies p)))
-node_written (Node-F.Bind b vs u) p = opened (binds p) ++ (binder_written b vs ++ (u Operand ++ closed (binds p)))
-node_written (Node-F.Not u) p = opened (negates p) ++ (word (codes "~") ++ (u Operand ++ closed (negates p)))
-node_written (Node-F.Join c a b) p = opened (joins p c) ++ (a Operand ++ (word (connective_text c) ++ (b (right_of c) ++ closed (joins p c))))
-node_written (Node-F.Equal s byte a b) p = opened (equates p) ++ (a Left ++ (word (sign_text s) ++ (b Side ++ closed (equates p))))
-node_written Node-F.Negation p = sign_written (codes "~")
-node_written (Node-F.Connective c) p = sign_written (connective_text c)
-node_written Node-F.Pi p = word (codes "!!")
-node_written Node-F.Sigma p = word (codes "??")
-node_written Node-F.Choice p = word (codes "@@+")
+node_written (Node-F.Atom name) = open_ended (λ p. word (atom_text name))
+node_written (Node-F.Var name) = open_ended (λ p. word name)
+node_written Node-F.True = open_ended (λ p. word (codes "$true"))
+node_written Node-F.False = open_ended (λ p. word (codes "$false"))
+node_written (Node-F.Apply f list) = open_ended (λ p. opened (applies p) ++ (f.at Item ++ (arguments_written (last_of p) list ++ closed (applies p))))
+node_written (Node-F.Bind b vs u) = record {
+  at = λ p. opened (binds p u.ends) ++ (binder_written b vs ++ (u.at (operand_of p (binds p u.ends)) ++ closed (binds p u.ends)));
+  ends = u.ends;
+}
+node_written (Node-F.Not u) = record {
+  at = λ p. opened (negates p u.ends) ++ (word (codes "~") ++ (u.at (operand_of p (negates p u.ends)) ++ closed (negates p u.ends)));
+  ends = u.ends;
+}
+node_written (Node-F.Join c a b) = open_ended (λ p. opened (joins p c) ++ (a.at Operand ++ (word (connective_text c) ++ (b.at (right_of c) ++ closed (joins p c)))))
+node_written (Node-F.Equal s byte a b) = record {
+  at = λ p. opened (equates p) ++ (a.at Left ++ (word (sign_text s) ++ (b.at (side_of p) ++ closed (equates p))));
+  ends = true;
+}
+node_written Node-F.Negation = open_ended (λ p. sign_written (codes "~"))
+node_written (Node-F.Connective c) = open_ended (λ p. sign_written (connective_text c))
+node_written Node-F.Pi = open_ended (λ p. word (codes "!!"))
+node_written Node-F.Sigma = open_ended (λ p. word (codes "??"))
+node_written Node-F.Choice = open_ended (λ p. word (codes "@@+"))
 
 abbrev pub tree_written : Tree-F Writer Writer → Writer
 tree_written t = t.node
@@ -192,7 +230,7 @@ abbrev pub writer : Tree → Writer
 writer = fold-Tree Writer Writer node_written tree_written
 
 abbrev pub written : Place → Tree → List ℕ
-written p tree = writer tree p
+written p tree = (writer tree).at p
 
 -- ---- statements
 

@@ -1,13 +1,18 @@
 //! What the grammar and its table say of each other.
 
-ghost use Rattle.std.specs.Prelude.{◌≡◌, ◌⊎◌, ℕ, List, ◌++◌};
+ghost use Rattle.std.specs.Prelude.{◌≡◌, ◌⊎◌, ℕ, List, ◌++◌, length};
 ghost use Rattle.leo_syntax.specs.declared.refusal.ReadRefusal.{ReadRefusal};
 ghost use Rattle.leo_syntax.specs.declared.refusal.ReadRefusal.TheVariants.{Syntax};
-ghost use Rattle.leo_syntax.specs.Lexemes.{Ahead};
-ghost use Rattle.leo_syntax.specs.Rules.{Part, goes_on, file_outcome, refused};
+ghost use Rattle.leo_lex.specs.Cut.{AreTokens};
+ghost use Rattle.leo_lex.specs.declared.token.Token.{Token};
+ghost use Rattle.leo_syntax.specs.Lexemes.{Ahead, lexemes};
+ghost use Rattle.leo_syntax.specs.Rules.{Part, accepted, goes_on, file_outcome, refused};
 ghost use Rattle.leo_syntax.specs.Prefix.{file_steps, GoesOn, InLevels, IsTaken, StopsWith};
 ghost use Rattle.leo_syntax.specs.Grammar.{IsFile};
+ghost use Rattle.leo_syntax.specs.RoundTrip.{IsReadBack};
 ghost use Rattle.leo_syntax.specs.declared.tree.Statement.{Statement};
+
+use leo_lex::spaced_words_are_tokens;
 
 /// A law: a refusal is that of the first token with which no file goes on.
 pub fn refusals_are_first()
@@ -24,3 +29,12 @@ pub fn refusals_are_first()
 pub fn texts_are_taken()
     ensures { (end : ℕ) (ls : Ahead) (list : List Statement) → IsFile ls list → IsTaken (file_outcome end ls) }
 {}
+
+/// A law: what is written of the statements of a text that was read is read back as the same
+/// statements, but for the bytes where they stand.
+pub fn written_texts_are_read()
+    ensures { (bytes : List ℕ) (tokens : List Token) (list : List Statement) → AreTokens bytes tokens → IsFile (lexemes bytes tokens) list
+        → file_outcome (length bytes) (lexemes bytes tokens) ≡ accepted → IsReadBack list }
+{
+    spaced_words_are_tokens();
+}

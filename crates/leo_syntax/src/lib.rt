@@ -18,7 +18,7 @@ mod variables;
 mod writing;
 
 pub use file::read;
-pub use laws::{refusals_are_first, texts_are_taken};
+pub use laws::{refusals_are_first, texts_are_taken, written_texts_are_read};
 pub use listing::write;
 pub use refusal::{Form, ReadRefusal};
 pub use tree::{

@@ -413,6 +413,12 @@ fn written_formulas(rt: HostRuntime) -> Result<(), Fail> {
         b"thf(a,axiom,(f @ x) @ ?[X:s]:(&) @ $true).",
         b"thf ( a , axiom , ( f @ x ) @ ? [ X : s ] : ( & ) @ $true ) . ",
     )?;
+    is_written(
+        &rt,
+        alloc,
+        b"thf(a,axiom,f @ (![X:s]: p = (~q)) = ~ r = s).",
+        b"thf ( a , axiom , f @ ! [ X : s ] : p = ( ~ q ) = ~ r = s ) . ",
+    )?;
     Ok(())
 }
 

@@ -1,5 +1,5 @@
-//! Writing trees. A bracket stands only where a part needs one, so the text has no more levels
-//! than any other text of the tree.
+//! Writing trees. A bracket stands only where every text of the tree has one, so that the text has
+//! no more levels than any other text of the tree.
 
 ghost use Rattle.std.specs.Prelude.{◌≡◌, ◌++◌, ◌∷◌, [], ◌<◌, OnOk, map};
 ghost use Rattle.std.specs.List.{list_all};
@@ -10,21 +10,26 @@ ghost use Rattle.leo_syntax.specs.declared.writing.Place.TheVariants.{Item};
 use crate::tree::{Binder, Connective, Node, Sign, Tree, TypeNode, TypeTree, TypeWord, Variable};
 use std::alloc::AllocError;
 
-/// Where a tree stands.
+/// Where a tree stands. At a sealed place the mark of an equation stands behind the tree, which must
+/// not take it.
 #[derive(Clone, Copy)]
 pub enum Place {
     /// A body, or between brackets.
     Formula,
     /// Behind `~` or a binder, or beside a connective.
     Operand,
+    /// An operand that ends in an equation, at a sealed place.
+    SealedOperand,
     /// The right operand of that connective, which stands in chains.
     Chain(Connective),
     /// The right side of an equation.
     Side,
+    SealedSide,
     /// The left side of an equation.
     Left,
     /// The last argument of an application.
     Last,
+    SealedLast,
     /// A head, or an argument before others.
     Item,
 }
@@ -101,28 +106,71 @@ impl Place {
         }
     }
 
-    fn negates(self) -> bool
-        ensures { result ≡ spec.negates self }
+    /// Whether a negation of that operand stands here without brackets.
+    fn negates(self, operand: &Tree) -> bool
+        ensures { result ≡ spec.negates self (spec.writer operand.now).ends }
     {
-        !matches!(self, Place::Left | Place::Last | Place::Item)
+        match self {
+            Place::Left | Place::Last | Place::SealedLast | Place::Item => false,
+            Place::SealedSide => ends_in_equation(operand),
+            _ => true,
+        }
     }
 
-    fn binds(self) -> bool
-        ensures { result ≡ spec.binds self }
+    /// Whether a binder with that body stands here without brackets.
+    fn binds(self, body: &Tree) -> bool
+        ensures { result ≡ spec.binds self (spec.writer body.now).ends }
     {
-        !matches!(self, Place::Left | Place::Item)
+        match self {
+            Place::Left | Place::Item => false,
+            Place::SealedSide | Place::SealedLast => ends_in_equation(body),
+            _ => true,
+        }
     }
 
     fn equates(self) -> bool
         ensures { result ≡ spec.equates self }
     {
-        matches!(self, Place::Formula | Place::Operand | Place::Chain(_))
+        matches!(
+            self,
+            Place::Formula | Place::Operand | Place::SealedOperand | Place::Chain(_)
+        )
     }
 
     fn applies(self) -> bool
         ensures { result ≡ spec.applies self }
     {
-        !matches!(self, Place::Last | Place::Item)
+        !matches!(self, Place::Last | Place::SealedLast | Place::Item)
+    }
+
+    fn is_sealed(self) -> bool
+        ensures { result ≡ spec.is_sealed self }
+    {
+        matches!(
+            self,
+            Place::SealedOperand | Place::SealedSide | Place::SealedLast
+        )
+    }
+
+    /// Where the operand of what is here stands.
+    fn operand(self, stands: bool) -> Place
+        ensures { result ≡ spec.operand_of self stands }
+    {
+        if stands && self.is_sealed() {
+            Place::SealedOperand
+        } else {
+            Place::Operand
+        }
+    }
+
+    /// Where the right side of an equation that is here stands.
+    fn side(self) -> Place
+        ensures { result ≡ spec.side_of self }
+    {
+        match self {
+            Place::SealedOperand => Place::SealedSide,
+            _ => Place::Side,
+        }
     }
 
     /// Where an argument stands that has so many behind it, with itself, and whose last stands here.
@@ -133,13 +181,26 @@ impl Place {
         if count == 1 { self } else { Place::Item }
     }
 
+    /// Where the last argument of an application that is here stands.
     fn last(self) -> Place
         ensures { result ≡ spec.last_of self }
     {
         match self {
-            Place::Left => Place::Item,
+            Place::Left | Place::SealedSide => Place::SealedLast,
             _ => Place::Last,
         }
+    }
+}
+
+/// Whether the text of a tree as an operand ends in an equation, so that it takes no other mark.
+fn ends_in_equation(tree: &Tree) -> bool
+    ensures { result ≡ (spec.writer tree.now).ends }
+{
+    match &tree.node {
+        Node::Bind(_, _, body) => ends_in_equation(body.get()),
+        Node::Not(operand) => ends_in_equation(operand.get()),
+        Node::Equal(..) => true,
+        _ => false,
     }
 }
 
@@ -372,16 +433,18 @@ pub fn write_tree(out: &mut Vec<u8>, tree: &Tree, place: Place) -> Result<(), Al
             close(out, place.applies())
         }
         Node::Bind(found, list, body) => {
-            open(out, place.binds())?;
+            let stands = place.binds(body.get());
+            open(out, stands)?;
             binder(out, *found, list.as_slice())?;
-            write_tree(out, body.get(), Place::Operand)?;
-            close(out, place.binds())
+            write_tree(out, body.get(), place.operand(stands))?;
+            close(out, stands)
         }
         Node::Not(operand) => {
-            open(out, place.negates())?;
+            let stands = place.negates(operand.get());
+            open(out, stands)?;
             word(out, b"~")?;
-            write_tree(out, operand.get(), Place::Operand)?;
-            close(out, place.negates())
+            write_tree(out, operand.get(), place.operand(stands))?;
+            close(out, stands)
         }
         Node::Join(connective, left, right) => {
             open(out, place.joins(*connective))?;
@@ -394,7 +457,7 @@ pub fn write_tree(out: &mut Vec<u8>, tree: &Tree, place: Place) -> Result<(), Al
             open(out, place.equates())?;
             write_tree(out, left.get(), Place::Left)?;
             word(out, sign_text(*sign))?;
-            write_tree(out, right.get(), Place::Side)?;
+            write_tree(out, right.get(), place.side())?;
             close(out, place.equates())
         }
         Node::Negation => in_brackets(out, b"~"),
