@@ -13,6 +13,15 @@ pub mod Pairs
 pub mod FormRules
 pub mod Among
 pub mod Paths
+pub mod MovedTerms
+pub mod MovedVariables
+pub mod ReplacedTerms
+pub mod TopTests
+pub mod ReplacedPaths
+pub mod ChoiceRule
+pub mod LinesGrowing
+pub mod Paramodulating
+pub mod Paramodulants
 pub mod Definitions
 pub mod GivenTerms
 pub mod Lacking

@@ -7,9 +7,11 @@ pub mod Conditions
 pub mod Symbols
 pub mod Conclusions
 pub mod Acceptance
+pub mod Verdicts
 pub mod Parts
 pub mod Leaves
 pub mod Visits
+pub mod Moved
 pub mod Truths
 pub mod ByNumber
 pub mod Tops

@@ -2,6 +2,7 @@
 #![tactic(auto)]
 
 mod asked;
+mod choice;
 mod compare;
 mod conditions;
 mod decompose;
@@ -10,10 +11,13 @@ mod forms;
 mod fresh;
 mod given;
 mod leaves;
+mod moving;
+mod paramodulation;
 mod parts;
 mod places;
 mod plain;
 mod reason;
+mod replacing;
 mod rows;
 mod symbols;
 mod truths;
