@@ -2,6 +2,10 @@
 #![tactic(auto)]
 
 mod asked;
+mod chosen;
+mod chosen_claims;
+mod chosen_matching;
+mod chosen_shown;
 mod compare;
 mod conditions;
 mod decompose;
