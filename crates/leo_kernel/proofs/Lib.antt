@@ -30,3 +30,12 @@ pub mod LinesLacking
 pub mod Lookups
 pub mod Decomposing
 pub mod Defining
+pub mod ChosenRenaming
+pub mod ChosenMatching
+pub mod ChosenMaking
+pub mod ChosenShowing
+pub mod ChosenClauses
+pub mod ChosenGrowing
+pub mod ChosenSteps
+pub mod ChosenNext
+pub mod ChosenSymbols

@@ -17,3 +17,8 @@ pub mod ByNumber
 pub mod Tops
 pub mod Records
 pub mod Sides
+pub mod ChosenTerms
+pub mod ChosenClaims
+pub mod ChosenShown
+pub mod ChosenMatching
+pub mod ChosenClauses

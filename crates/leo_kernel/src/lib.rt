@@ -3,6 +3,10 @@
 
 mod asked;
 mod choice;
+mod chosen;
+mod chosen_claims;
+mod chosen_matching;
+mod chosen_shown;
 mod compare;
 mod conditions;
 mod decompose;
