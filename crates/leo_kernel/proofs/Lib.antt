@@ -22,6 +22,7 @@ pub mod ChoiceRule
 pub mod LinesGrowing
 pub mod Paramodulating
 pub mod Paramodulants
+pub mod ShapeRules
 pub mod Definitions
 pub mod GivenTerms
 pub mod Lacking

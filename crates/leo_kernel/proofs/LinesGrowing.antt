@@ -26,7 +26,7 @@ module _ {c d : Contents} (e : Extends c d) where
   rule-kept (record_of.Factor p i j) k = refl
   rule-kept (record_of.Abbreviate s) k = refl
 
-  rule-grow : (r : Rule) → AreTermsOfRule c r → AreTermsOfRule d r
+  pub rule-grow : (r : Rule) → AreTermsOfRule c r → AreTermsOfRule d r
   rule-grow (record_of.Inst p sigma) h = are_terms-kept e sigma h
   rule-grow (record_of.Axiom h) k = tt
   rule-grow (record_of.Convert p) k = tt

@@ -29,7 +29,7 @@ pub side-shifted : (n : ℕ) (side : Side) (k : Literal) → side_of side (shift
 side-shifted n Left k = refl
 side-shifted n Right k = refl
 
-lit-kept : {c d : Contents} → Extends c d → (l : Lit) → l.left < length c.terms → l.right < length c.terms → literal_at d l ≡ literal_at c l
+pub lit-kept : {c d : Contents} → Extends c d → (l : Lit) → l.left < length c.terms → l.right < length c.terms → literal_at d l ≡ literal_at c l
 lit-kept e l p q = rw (tree-kept e l.left p, tree-kept e l.right q) refl
 
 -- what stands at the path in a moved literal

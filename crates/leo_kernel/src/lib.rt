@@ -2,6 +2,7 @@
 #![tactic(auto)]
 
 mod asked;
+mod check;
 mod choice;
 mod chosen;
 mod chosen_claims;
@@ -23,9 +24,11 @@ mod plain;
 mod reason;
 mod replacing;
 mod rows;
+mod shape;
 mod symbols;
 mod truths;
 mod typed;
 mod types;
 
+pub use check::check_step;
 pub use reason::{Reason, StepRefusal};
