@@ -13,7 +13,7 @@ use Rattle.leo_kernel.specs.Conclusions.{with_literals, with_new}
 use Rattle.leo_kernel.specs.ByNumber.{IsConclusion}
 
 -- lists of numbers of a bank
-types-append : (c : Contents) (xs ys : List ℕ) → AreTypesOf c xs → AreTypesOf c ys → AreTypesOf c (xs ++ ys)
+pub types-append : (c : Contents) (xs ys : List ℕ) → AreTypesOf c xs → AreTypesOf c ys → AreTypesOf c (xs ++ ys)
 types-append c [] ys h k = k
 types-append c (x ∷ xs) ys h k = (h.0, types-append c xs ys h.1 k)
 

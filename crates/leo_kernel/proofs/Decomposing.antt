@@ -23,7 +23,7 @@ use Rattle.leo_kernel.specs.Sides.{if_same, app_sides, logic_sides, sides, Stand
 use Rattle.leo_kernel.proofs.TypedLits.{no}
 use Rattle.leo_kernel.proofs.TypeRules.{types-decide}
 
-same_connective-refl : (c : Connective) → same_connective c c ≡ true
+pub same_connective-refl : (c : Connective) → same_connective c c ≡ true
 same_connective-refl truth = refl
 same_connective-refl falsity = refl
 same_connective-refl negation = refl
@@ -35,7 +35,7 @@ same_connective-refl (universal a) = same_type-refl a
 same_connective-refl (existential a) = same_type-refl a
 same_connective-refl (choice a) = same_type-refl a
 
-equal-connectives : (c d : Connective) → same_connective c d ≡ true → c ≡ d
+pub equal-connectives : (c d : Connective) → same_connective c d ≡ true → c ≡ d
 equal-connectives truth truth h = refl
 equal-connectives falsity falsity h = refl
 equal-connectives negation negation h = refl

@@ -78,7 +78,7 @@ pub one-undeclared : (c : Contents) (vs : List SimpleType) (ls : List Lit) (i : 
 one-undeclared c vs ls i l r lt e d f =
     no (λ h. not-both r d f (each-get (λ (k : Lit). (leaves_pass Declared vs 0 (tree_at c k.left) ≡ true) × (leaves_pass Declared vs 0 (tree_at c k.right) ≡ true)) ls i l (declared-each c vs ls h) (get-index ls i l lt e)))
 
-given-of : (terms : List Tree) (ls : List Literal) → AreDeclared (map type_of terms) ls → AreGiven terms ls
+pub given-of : (terms : List Tree) (ls : List Literal) → AreDeclared (map type_of terms) ls → AreGiven terms ls
 given-of terms [] h = tt
 given-of terms (l ∷ ls) h = (passes-given terms 0 l.left h.0, passes-given terms 0 l.right h.1, given-of terms ls h.2)
 

@@ -23,7 +23,7 @@ use Rattle.leo_kernel.proofs.TypedLits.{no}
 use Rattle.leo_kernel.proofs.Clauses.{concluded}
 
 module _ {c d : Contents} (e : Extends c d) where
-  types-grow : (vars : List ℕ) → AreTypesOf c vars → AreTypesOf d vars
+  pub types-grow : (vars : List ℕ) → AreTypesOf c vars → AreTypesOf d vars
   types-grow [] h = tt
   types-grow (a ∷ vars) h = let m = e.types_more in let k = h.0 in (omega arith, types-grow vars h.1)
 

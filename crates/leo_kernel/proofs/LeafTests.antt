@@ -11,13 +11,13 @@ use Rattle.leo_kernel.specs.Symbols.{LacksSymbol, HasNoVariable}
 use Rattle.leo_kernel.specs.Leaves.{is_type, leaves_pass}
 use Rattle.std.specs.Bool.{Decides}
 
-both : (p q : Bool) → p ≡ true → q ≡ true → (p && q) ≡ true
+pub both : (p q : Bool) → p ≡ true → q ≡ true → (p && q) ≡ true
 both p q e f = rw (e, f) refl
 
-is_type-true : (o : Option SimpleType) (a : SimpleType) → o ≡ Some a → is_type o a ≡ true
+pub is_type-true : (o : Option SimpleType) (a : SimpleType) → o ≡ Some a → is_type o a ≡ true
 is_type-true o a e = rw e (same_type-refl a)
 
-true-is_type : (o : Option SimpleType) (a : SimpleType) → is_type o a ≡ true → o ≡ Some a
+pub true-is_type : (o : Option SimpleType) (a : SimpleType) → is_type o a ≡ true → o ≡ Some a
 true-is_type None a e = cc
 true-is_type (Some b) a e = ap Some (equal_types b a e)
 

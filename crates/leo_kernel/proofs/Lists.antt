@@ -45,7 +45,7 @@ any-at P Q test here (x ∷ xs) all h = step (test x) (list_any test xs) (λ e. 
     step true d f g h = f refl
     step false d f g h = g h
 
-end-only : {X : Type 0} (xs : List X) (x : X) (i : ℕ) (y : X) → slice_get (xs ++ x ∷ []) i ≡ Some y → (slice_get xs i ≡ Some y) ⊎ (x ≡ y)
+pub end-only : {X : Type 0} (xs : List X) (x : X) (i : ℕ) (y : X) → slice_get (xs ++ x ∷ []) i ≡ Some y → (slice_get xs i ≡ Some y) ⊎ (x ≡ y)
 end-only [] x zero y h = inr (cc)
 end-only [] x (suc i) y h = absurd (cc)
 end-only (z ∷ xs) x zero y h = inl h

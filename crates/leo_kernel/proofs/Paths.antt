@@ -8,7 +8,7 @@ use Rattle.leo_terms.proofs.CallerLemmas.{term-present}
 use Rattle.leo_kernel.specs.Places.{child, present, subterm}
 use Rattle.leo_kernel.specs.ByNumber.{app_child_of, logic_child_of}
 
-present-itself : (t : Tree) → IsPresent t → present t ≡ Some t
+pub present-itself : (t : Tree) → IsPresent t → present t ≡ Some t
 present-itself absent h = absurd h
 present-itself (variable n a) h = refl
 present-itself (bound i a) h = refl
@@ -42,18 +42,18 @@ module _ (c : Contents) (b : IsBank c) where
   logic-child_below x y (suc zero) h k = k
   logic-child_below x y (suc (suc n)) h k = tt
 
-drop-at : (path : List ℕ) (i n : ℕ) → i < length path → n ≡ slice_index_or path i n → drop i path ≡ n ∷ drop (i + 1) path
+pub drop-at : (path : List ℕ) (i n : ℕ) → i < length path → n ≡ slice_index_or path i n → drop i path ≡ n ∷ drop (i + 1) path
 drop-at [] i n l e = absurd (omega arith)
 drop-at (m ∷ path) zero n l e = ap (λ (k : ℕ). k ∷ path) (sym e)
 drop-at (m ∷ path) (suc i) n l e = let k : suc i + 1 ≡ suc (i + 1) = omega arith in rw k (drop-at path i n (omega arith) e)
 
-drop-all : (path : List ℕ) (i : ℕ) → length path ≤ i → drop i path ≡ []
+pub drop-all : (path : List ℕ) (i : ℕ) → length path ≤ i → drop i path ≡ []
 drop-all [] zero l = refl
 drop-all [] (suc i) l = refl
 drop-all (m ∷ path) zero l = absurd (omega arith)
 drop-all (m ∷ path) (suc i) l = drop-all path i (omega arith)
 
-index-default : (path : List ℕ) (i : ℕ) → i < length path → slice_index_or path i 0 ≡ slice_index_or path i (slice_index_or path i 0)
+pub index-default : (path : List ℕ) (i : ℕ) → i < length path → slice_index_or path i 0 ≡ slice_index_or path i (slice_index_or path i 0)
 index-default [] i l = absurd (omega arith)
 index-default (m ∷ path) zero l = refl
 index-default (m ∷ path) (suc i) l = default-free path i _ _ (omega arith)

@@ -30,10 +30,10 @@ module _ (c : Contents) (b : IsBank c) where
   pub types-decide : (i j : ℕ) → i < length c.types → j < length c.types → (r : Bool) → r ≡ nat_eq i j → Decides r (type_at c i ≡ type_at c j)
   types-decide i j k l r e = (λ h. ap (type_at c) (equal-numbers i j (sym e ∙ h)), λ h. let f : i ≡ j = type-shared b i j k l h in e ∙ rw f (same-number j))
 
-  truth-reads : type_at c 0 ≡ truth_type
+  pub truth-reads : type_at c 0 ≡ truth_type
   truth-reads = reads-base b 0 0 (sound c b).truth_first
 
-  truth-within : 0 < length c.types
+  pub truth-within : 0 < length c.types
   truth-within = let m = b.base_types in omega arith
 
   pub same_type-decides : (s t m n : ℕ) → s < length c.terms → t < length c.terms → m ≡ type_number c s → n ≡ type_number c t → (r : Bool) → r ≡ nat_eq m n → Decides r (type_of (tree_at c s) ≡ type_of (tree_at c t))
@@ -67,16 +67,16 @@ two-items (a ∷ []) x y l e f = absurd (omega arith)
 two-items (a ∷ d ∷ []) x y l e f = rw (e, f) refl
 two-items (a ∷ d ∷ k ∷ xs) x y l e f = absurd (omega arith)
 
-map-length : (c : Contents) (xs : List ℕ) (a b : SimpleType) → map (type_at c) xs ≡ a ∷ b ∷ [] → length xs ≡ 2
+pub map-length : (c : Contents) (xs : List ℕ) (a b : SimpleType) → map (type_at c) xs ≡ a ∷ b ∷ [] → length xs ≡ 2
 map-length c [] a b e = (let f : ⊥ = cc in absurd f)
 map-length c (x ∷ []) a b e = (let f : ⊥ = cc in absurd f)
 map-length c (x ∷ y ∷ []) a b e = refl
 map-length c (x ∷ y ∷ z ∷ xs) a b e = (let f : ⊥ = cc in absurd f)
 
-heads : (p q r s : SimpleType) → p ∷ q ∷ [] ≡ r ∷ s ∷ [] → (p ≡ r) × (q ≡ s)
+pub heads : (p q r s : SimpleType) → p ∷ q ∷ [] ≡ r ∷ s ∷ [] → (p ≡ r) × (q ≡ s)
 heads p q r s e = (cc, cc)
 
-arrows : (p q r s : SimpleType) → arrow p q ≡ arrow r s → (p ≡ r) × (q ≡ s)
+pub arrows : (p q r s : SimpleType) → arrow p q ≡ arrow r s → (p ≡ r) × (q ≡ s)
 arrows p q r s e = (cc, cc)
 
 pub choice-length : (c : Contents) (vars : List ℕ) → (length vars ≡ 2 → ⊥) → Decides false (AreChoiceVariables (map (type_at c) vars))
@@ -89,7 +89,7 @@ module _ (c : Contents) (b : IsBank c) (vars : List ℕ) (types : AreTypesOf c v
   y-within : y < length c.types
   y-within = types-at c vars types 1 y (omega arith) second
 
-  parts : (h : AreChoiceVariables (map (type_at c) vars)) → (type_at c x ≡ arrow h.0 truth_type) × (type_at c y ≡ h.0)
+  pub parts : (h : AreChoiceVariables (map (type_at c) vars)) → (type_at c x ≡ arrow h.0 truth_type) × (type_at c y ≡ h.0)
   parts h = heads (type_at c x) (type_at c y) (arrow h.0 truth_type) h.0 (rw listed at h.1)
 
   pub choice-base : (n : ℕ) → slice_get c.types x ≡ Some (Base n) → Decides false (AreChoiceVariables (map (type_at c) vars))

@@ -53,3 +53,7 @@ is_symbol_tree s absent = false
 abbrev pub side_number : Side → Lit → ℕ
 side_number Left l = l.left
 side_number Right l = l.right
+
+abbrev pub other_side_number : Side → Lit → ℕ
+other_side_number Left l = l.right
+other_side_number Right l = l.left

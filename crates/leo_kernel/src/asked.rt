@@ -24,7 +24,7 @@ use leo_terms::{Bank, TermId, TyId};
 use std::alloc::{AllocError, Global};
 
 /// The literal of a line, by number.
-fn literal(bank: &Bank, lines: &[StepRecord], line: u64, number: u32) -> Lit
+pub(crate) fn literal(bank: &Bank, lines: &[StepRecord], line: u64, number: u32) -> Lit
     requires lines { AreStepsOf bank.now lines.now }
     requires line { line < length (map (line_at bank.now) lines.now) }
     requires literal { IsLiteralOf (map (line_at bank.now) lines.now) line number }

@@ -52,7 +52,7 @@ fn have_one_type(bank: &Bank, op: Op, other: Op) -> bool
 }
 
 /// Whether two logical constants are one.
-fn is_one_constant(bank: &Bank, op: Op, other: Op) -> bool
+pub(crate) fn is_one_constant(bank: &Bank, op: Op, other: Op) -> bool
     requires first { HasTypeBelow (length bank.now.types) op }
     requires second { HasTypeBelow (length bank.now.types) other }
     ensures { result ≡ same_connective (connective bank.now op) (connective bank.now other) }

@@ -108,7 +108,7 @@ fn is_instance(bank: &mut Bank, sigma: &[TermId], old: Lit, new: Lit) -> Result<
 }
 
 /// `C ⊢ C` with terms put in for its variables.
-fn are_instances(
+pub(crate) fn are_instances(
     bank: &mut Bank,
     sigma: &[TermId],
     old: &[Lit],

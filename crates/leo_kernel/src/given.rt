@@ -91,7 +91,12 @@ fn is_declared_lit(
 }
 
 /// Whether each variable of these literals is one of these.
-fn are_declared(alloc: Global, bank: &Bank, vars: &[TyId], lits: &[Lit]) -> Result<bool, AllocError>
+pub(crate) fn are_declared(
+    alloc: Global,
+    bank: &Bank,
+    vars: &[TyId],
+    lits: &[Lit],
+) -> Result<bool, AllocError>
     requires vars { AreTypesOf bank.now vars.now }
     requires lits { AreLiteralsOf bank.now lits.now }
     ensures { IfOk result (λ b. Decides b (AreDeclared (map (type_at bank.now) vars.now) (map (literal_at bank.now) lits.now))) }

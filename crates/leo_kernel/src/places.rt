@@ -31,7 +31,7 @@ fn logic_child(x: Option<TermId>, y: Option<TermId>, number: u8) -> Option<TermI
 }
 
 /// The child with this number, if it is there. A lambda has none.
-fn child(bank: &Bank, t: TermId, number: u8) -> Option<TermId>
+pub(crate) fn child(bank: &Bank, t: TermId, number: u8) -> Option<TermId>
     requires { t < length bank.now.terms }
     ensures value { option_map (tree_at bank.now) result ≡ child_of number (tree_at bank.now t) }
     ensures within { IsArgumentBelow (length bank.now.terms) result }

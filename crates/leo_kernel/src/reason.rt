@@ -1,5 +1,10 @@
 //! Why a step is refused.
 
+ghost use Rattle.std.specs.Prelude.{◌≡◌};
+ghost use Rattle.leo_kernel.specs.declared.reason.StepRefusal.TheVariants.{Memory};
+
+use std::alloc::AllocError;
+
 /// The first condition of a step's rule that does not hold, in this order.
 #[derive(Clone, Copy, Debug, PartialEq, Eq)]
 pub enum Reason {
@@ -26,4 +31,12 @@ pub enum StepRefusal {
     Refused { reason: Reason },
     /// Memory ran out, or a term goes deeper than a bank's terms may.
     Memory,
+}
+
+impl From<AllocError> for StepRefusal {
+    ghost from_gives = { λ _ refusal. refusal ≡ Memory };
+
+    fn from(_failed: AllocError) -> StepRefusal {
+        StepRefusal::Memory
+    }
 }
