@@ -1,0 +1,5 @@
+pub mod Roles
+pub mod Texts
+pub mod Gathering
+pub mod Theories
+pub mod Loading
