@@ -3,3 +3,4 @@ pub mod Texts
 pub mod Gathering
 pub mod Theories
 pub mod Loading
+pub mod Steps

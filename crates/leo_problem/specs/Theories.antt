@@ -52,12 +52,19 @@ abbrev pub unlisted_role : List Kept → Option LoadRefusal
 unlisted_role [] = None
 unlisted_role (k ∷ ks) = refused_role_or k.file (unlisted k.statement) (unlisted_role ks)
 
-abbrev pub conjectures : Statement → Bool
-conjectures (statement.Formula byte name role role_byte tree) = bytes_eq role (codes "conjecture")
-conjectures _ = false
+-- the first byte of a statement, if it is a conjecture
+abbrev pub conjectured : Statement → Option ℕ
+conjectured (statement.Formula byte name role role_byte tree) = if bytes_eq role (codes "conjecture") then Some byte else None
+conjectured _ = None
 
 abbrev pub is_conjecture : Kept → Bool
-is_conjecture k = conjectures k.statement
+is_conjecture k = is_some (conjectured k.statement)
+
+abbrev pub conjectures : List Kept → List Kept
+conjectures ks = filter is_conjecture ks
+
+abbrev pub has_conjecture : List Kept → Bool
+has_conjecture ks = list_any is_conjecture ks
 
 abbrev pub byte_of : Statement → ℕ
 byte_of (statement.Formula byte name role role_byte tree) = byte
@@ -67,23 +74,24 @@ byte_of (statement.Include byte file file_byte names) = byte
 -- each role is listed, and there is one conjecture at most
 pub record HaveRoles (ks : List Kept) : Type 0 where
   pub listed : unlisted_role ks ≡ None
-  pub one_conjecture : length (filter is_conjecture ks) ≤ 1
+  pub one_conjecture : length (conjectures ks) ≤ 1
 
 -- ---- typings
 
-abbrev pub typing_in : List ℕ → Statement → Option (List ℕ × Typing)
-typing_in file (statement.Typing byte name atom atom_byte ty) = Some (file, record { atom = atom; byte = atom_byte; ty = ty })
-typing_in file _ = None
+abbrev pub typing_in : Statement → Option Typing
+typing_in (statement.Typing byte name atom atom_byte ty) = Some (record { atom = atom; byte = atom_byte; ty = ty })
+typing_in _ = None
 
-abbrev pub typing_of : Kept → Option (List ℕ × Typing)
-typing_of k = typing_in k.file k.statement
-
--- the typings, each with its file
-abbrev pub typings_of : List Kept → List (List ℕ × Typing)
-typings_of ks = filter_map typing_of ks
-
+-- the typings, in order
 abbrev pub typings : List Kept → List Typing
-typings ks = map (λ p. p.1) (typings_of ks)
+typings ks = filter_map (λ k. typing_in k.statement) ks
+
+abbrev pub is_typing : Statement → Bool
+is_typing s = is_some (typing_in s)
+
+-- and the files in which they stand
+abbrev pub typing_files : List Kept → List (List ℕ)
+typing_files ks = map (λ k. k.file) (filter (λ k. is_typing k.statement) ks)
 
 -- the refusal of a file in which that is wrong
 abbrev pub meaning_refusal : List ℕ → ElabRefusal → LoadRefusal
@@ -96,24 +104,25 @@ meaning_refusal file elab.Memory = Memory
 
 -- ---- formulas
 
+abbrev pub is_formula : Statement → Bool
+is_formula (statement.Formula byte name role role_byte tree) = true
+is_formula _ = false
+
 -- what the statements assume, in order
 pub data AreHypotheses (d : Declared) : List Kept → List Hypothesis → Type 0 where
   no_more : AreHypotheses d [] []
-  typing : {byte atom_byte : ℕ} {file name atom : List ℕ} {ty : TypeTree} {ks : List Kept} {hs : List Hypothesis} → AreHypotheses d ks hs
-      → AreHypotheses d (record { file = file; statement = statement.Typing byte name atom atom_byte ty } ∷ ks) hs
-  formula : {byte role_byte : ℕ} {file name word : List ℕ} {tree : Tree} {role : Role} {t : Term} {ks : List Kept} {hs : List Hypothesis}
-      → role_of word ≡ Some role → Means d [] tree t truth → AreHypotheses d ks hs
-      → AreHypotheses d (record { file = file; statement = statement.Formula byte name word role_byte tree } ∷ ks)
-      (record { formula = assumed role t; file = file; name = name; role = role } ∷ hs)
+  no_formula : {k : Kept} {ks : List Kept} {hs : List Hypothesis} → is_formula k.statement ≡ false → AreHypotheses d ks hs → AreHypotheses d (k ∷ ks) hs
+  formula : {k : Kept} {byte role_byte : ℕ} {name word : List ℕ} {tree : Tree} {role : Role} {t : Term} {ks : List Kept} {hs : List Hypothesis}
+      → k.statement ≡ statement.Formula byte name word role_byte tree → role_of word ≡ Some role → Means d [] tree t truth → AreHypotheses d ks hs
+      → AreHypotheses d (k ∷ ks) (record { formula = assumed role t; file = k.file; name = name; role = role } ∷ hs)
 
 -- the first formula that offends, where those before it have a meaning
 pub data OffendsInFormulas (d : Declared) : List Kept → LoadRefusal → Type 0 where
-  here : {byte role_byte : ℕ} {file name word : List ℕ} {tree : Tree} {ks : List Kept} {e : ElabRefusal} → OffendsAsFormula d [] tree e
-      → OffendsInFormulas d (record { file = file; statement = statement.Formula byte name word role_byte tree } ∷ ks) (meaning_refusal file e)
-  behind_typing : {byte atom_byte : ℕ} {file name atom : List ℕ} {ty : TypeTree} {ks : List Kept} {r : LoadRefusal} → OffendsInFormulas d ks r
-      → OffendsInFormulas d (record { file = file; statement = statement.Typing byte name atom atom_byte ty } ∷ ks) r
-  behind_formula : {byte role_byte : ℕ} {file name word : List ℕ} {tree : Tree} {t : Term} {ks : List Kept} {r : LoadRefusal} → Means d [] tree t truth → OffendsInFormulas d ks r
-      → OffendsInFormulas d (record { file = file; statement = statement.Formula byte name word role_byte tree } ∷ ks) r
+  here : {k : Kept} {byte role_byte : ℕ} {name word : List ℕ} {tree : Tree} {ks : List Kept} {e : ElabRefusal}
+      → k.statement ≡ statement.Formula byte name word role_byte tree → OffendsAsFormula d [] tree e → OffendsInFormulas d (k ∷ ks) (meaning_refusal k.file e)
+  behind_no_formula : {k : Kept} {ks : List Kept} {r : LoadRefusal} → is_formula k.statement ≡ false → OffendsInFormulas d ks r → OffendsInFormulas d (k ∷ ks) r
+  behind_formula : {k : Kept} {byte role_byte : ℕ} {name word : List ℕ} {tree : Tree} {t : Term} {ks : List Kept} {r : LoadRefusal}
+      → k.statement ≡ statement.Formula byte name word role_byte tree → Means d [] tree t truth → OffendsInFormulas d ks r → OffendsInFormulas d (k ∷ ks) r
 
 -- ---- the whole
 
@@ -124,10 +133,10 @@ pub data Answer : Type 0 where
 
 pub data Says (ks : List Kept) : Answer → Type 0 where
   bad_role : {r : LoadRefusal} → unlisted_role ks ≡ Some r → Says ks (refused r)
-  second_conjecture : {k : Kept} → unlisted_role ks ≡ None → slice_get (filter is_conjecture ks) 1 ≡ Some k
+  second_conjecture : {k : Kept} → unlisted_role ks ≡ None → slice_get (conjectures ks) 1 ≡ Some k
       → Says ks (refused (Refused k.file (byte_of k.statement) what.Conjectures))
-  bad_typing : {place : ℕ} {file : List ℕ} {typing : Typing} {e : ElabRefusal} → HaveRoles ks → IsFirstOffence (typings ks) place e → slice_get (typings_of ks) place ≡ Some (file, typing)
+  bad_typing : {place : ℕ} {file : List ℕ} {e : ElabRefusal} → HaveRoles ks → IsFirstOffence (typings ks) place e → slice_get (typing_files ks) place ≡ Some file
       → Says ks (refused (meaning_refusal file e))
   bad_formula : {d : Declared} {r : LoadRefusal} → HaveRoles ks → AreDeclared (typings ks) d → OffendsInFormulas d ks r → Says ks (refused r)
   theory : {d : Declared} {hs : List Hypothesis} → HaveRoles ks → AreDeclared (typings ks) d → AreHypotheses d ks hs
-      → Says ks (says (record { declared = d; hypotheses = hs; conjecture = list_any is_conjecture ks; statements = length ks }))
+      → Says ks (says (record { declared = d; hypotheses = hs; conjecture = has_conjecture ks; statements = length ks }))

@@ -1,7 +1,13 @@
 //! Why a problem is not loaded.
 
+ghost use Rattle.std.specs.Prelude.{◌≡◌, ◌≢◌};
+ghost use Rattle.leo_problem.specs.declared.refusal.LoadRefusal.TheVariants.{Refused, Memory};
+ghost use Rattle.leo_problem.specs.Theories.{meaning_refusal};
+
+use leo_elab::ElabRefusal;
 use leo_items::Items;
 use leo_syntax::Form;
+use std::alloc::{AllocError, AllocFailed, Global};
 
 /// What is wrong with a problem.
 #[derive(Clone, Copy, Debug, PartialEq, Eq)]
@@ -44,4 +50,46 @@ pub enum LoadRefusal {
         what: What,
     },
     Memory,
+}
+
+impl From<AllocError> for LoadRefusal {
+    ghost from_gives = { λ _ refusal. refusal ≡ Memory };
+
+    fn from(_failed: AllocError) -> LoadRefusal {
+        LoadRefusal::Memory
+    }
+}
+
+impl<T: Drop> From<AllocFailed<T>> for LoadRefusal {
+    ghost from_gives = { λ _ refusal. refusal ≡ Memory };
+
+    fn from(_failed: AllocFailed<T>) -> LoadRefusal {
+        LoadRefusal::Memory
+    }
+}
+
+/// A refusal in the file of that name, if there is memory to say so.
+pub fn refused(alloc: Global, file: &[u8], byte: u32, what: What) -> LoadRefusal
+    ensures { result ≢ Memory → result ≡ Refused file.now byte what }
+{
+    match Items::from_slice(alloc, file) {
+        Ok(file) => LoadRefusal::Refused { file, byte, what },
+        Err(_) => LoadRefusal::Memory,
+    }
+}
+
+/// The refusal of the file of that name for what is wrong in a typing or a formula.
+pub fn refused_meaning(alloc: Global, file: &[u8], refusal: ElabRefusal) -> LoadRefusal
+    ensures { result ≢ Memory → result ≡ meaning_refusal file.now refusal }
+{
+    match refusal {
+        ElabRefusal::Twice { byte } => refused(alloc, file, byte, What::Twice),
+        ElabRefusal::Unknown { byte } => refused(alloc, file, byte, What::Unknown),
+        ElabRefusal::WrongType { byte } => refused(alloc, file, byte, What::WrongType),
+        ElabRefusal::Free { byte } => refused(alloc, file, byte, What::Free),
+        ElabRefusal::Unsupported { byte, form } => {
+            refused(alloc, file, byte, What::Unsupported(form))
+        }
+        ElabRefusal::Memory => LoadRefusal::Memory,
+    }
 }
