@@ -9,6 +9,7 @@ use Rattle.leo_problem.specs.declared.gathered.Kept.{Kept}
 use Rattle.leo_problem.specs.declared.refusal.LoadRefusal.{LoadRefusal}
 use Rattle.leo_problem.specs.declared.refusal.LoadRefusal.TheVariants.{Refused}
 use Rattle.leo_problem.specs.declared.refusal.What.TheVariants as what
+use Rattle.leo_problem.specs.Limits.{room_for}
 use Rattle.leo_problem.specs.Texts.{AreStatements, RefusesText}
 
 -- ---- names of files
@@ -37,10 +38,6 @@ joined folder name = if begins_with_slash name then name else folder ++ name
 abbrev pub nothing_read : Counts
 nothing_read = record { files = 0; bytes = 0 }
 
--- how many bytes the next file may have: 16 MiB, and all files together 64 MiB
-abbrev pub room_for : Counts → ℕ
-room_for c = min 16777216 (67108864 - c.bytes)
-
 -- the counts with one more file
 abbrev pub with_file : Counts → List ℕ → Counts
 with_file c text = record { files = c.files + 1; bytes = c.bytes + length text }
@@ -64,10 +61,13 @@ abbrev pub is_include : Statement → Bool
 is_include (statement.Include byte file file_byte names) = true
 is_include _ = false
 
+abbrev pub is_among : List ℕ → List (List ℕ) → Bool
+is_among name names = list_any (bytes_eq name) names
+
 -- whether an include with that list of names, if it has one, keeps a statement
 abbrev pub is_selected : Option (List (List ℕ)) → Kept → Bool
 is_selected None k = true
-is_selected (Some names) k = list_any (bytes_eq (name_of k.statement)) names
+is_selected (Some names) k = is_among (name_of k.statement) names
 
 abbrev pub selected : Option (List (List ℕ)) → List Kept → List Kept
 selected names ks = filter (is_selected names) ks
@@ -77,7 +77,7 @@ selected names ks = filter (is_selected names) ks
 -- the content of a file as it was read: what is told of it, and within the limits
 pub record IsContent (told : Option (List ℕ)) (before : Counts) (text : List ℕ) : Type 0 where
   pub is_told : IfSome told (λ whole. text ≡ whole)
-  pub fits : length text ≤ room_for before
+  pub fits : length text ≤ room_for before.bytes
 
 -- the statements that are kept, and what was read; or the first refusal
 pub data Outcome : Type 0 where
@@ -93,7 +93,7 @@ mutual
   -- what a file gives that stands so many levels of includes below the problem's file. Any file may fail to be read.
   pub data Gathers (told : List ℕ → Option (List ℕ)) (folder : List ℕ) : ℕ → List ℕ → Counts → Outcome → Type 0 where
     unread : {level : ℕ} {file : List ℕ} {before : Counts} → Gathers told folder level file before (refused (Refused file 0 what.ReadFault))
-    too_large : {level : ℕ} {file : List ℕ} {before : Counts} → IfSome (told file) (λ whole. room_for before < length whole)
+    too_large : {level : ℕ} {file : List ℕ} {before : Counts} → IfSome (told file) (λ whole. room_for before.bytes < length whole)
         → Gathers told folder level file before (refused (Refused file 0 what.Large))
     no_statements : {level : ℕ} {file text : List ℕ} {before : Counts} {r : LoadRefusal} → IsContent (told file) before text → RefusesText file text r
         → Gathers told folder level file before (refused r)

@@ -2,6 +2,8 @@
 use Rattle.std.specs.Prelude.{◌≡◌, ℕ, List, length}
 use Rattle.leo_lex.specs.Cut.{AreTokens, StopsAt}
 use Rattle.leo_lex.specs.declared.token.Token.{Token}
+use Rattle.leo_lex.specs.declared.token.LexRefusal.{LexRefusal}
+use Rattle.leo_lex.specs.declared.token.LexRefusal.TheVariants as lexical
 use Rattle.leo_syntax.specs.declared.refusal.ReadRefusal.{ReadRefusal}
 use Rattle.leo_syntax.specs.declared.refusal.ReadRefusal.TheVariants as cause
 use Rattle.leo_syntax.specs.declared.tree.Statement.{Statement}
@@ -26,6 +28,11 @@ text_refusal file (cause.Syntax byte) = Refused file byte what.Syntax
 text_refusal file (cause.Unsupported byte form) = Refused file byte (what.Unsupported form)
 text_refusal file (cause.Deep byte) = Refused file byte what.Deep
 text_refusal file cause.Memory = Memory
+
+-- the refusal of a file in whose text no token begins
+abbrev pub lex_refusal : List ℕ → LexRefusal → LoadRefusal
+lex_refusal file (lexical.Lexical byte) = Refused file byte what.Lexical
+lex_refusal file lexical.Memory = Memory
 
 -- the text of a file is refused: at the first place where no token begins, or at the first token with which no file goes on
 pub data RefusesText (file text : List ℕ) : LoadRefusal → Type 0 where
