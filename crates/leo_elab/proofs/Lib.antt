@@ -10,3 +10,6 @@ pub mod MeaningLaw
 pub mod OffencesByTop
 pub mod ConflictLaw
 pub mod OffenceLaw
+pub mod Pairs
+pub mod FirstTypings
+pub mod Declarations

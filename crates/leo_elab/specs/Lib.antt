@@ -8,3 +8,6 @@ pub mod Standing
 pub mod Places
 pub mod Declaring
 pub mod FormulaLaws
+pub mod Pairs
+pub mod Typings
+pub mod Passes

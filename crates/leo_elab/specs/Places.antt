@@ -13,7 +13,8 @@ use Rattle.leo_elab.specs.declared.quantifiers.Quantifier.{Quantifier}
 use Rattle.leo_elab.specs.declared.scope.Bound.{Bound}
 use Rattle.leo_elab.specs.Problem.{Declared, Scope}
 use Rattle.leo_elab.specs.Table.{Table, AreNamesOf, KnowsNames}
-use Rattle.leo_elab.specs.Meaning.{Means, Applies, Binds}
+use Rattle.leo_syntax.specs.declared.tree.TypeTree.{TypeTree}
+use Rattle.leo_elab.specs.Meaning.{MeansType, Means, Applies, Binds}
 use Rattle.leo_elab.specs.Signs.{applied, element, quantified, quantified_type}
 use Rattle.leo_elab.specs.Standing.{Stands}
 
@@ -104,3 +105,8 @@ IsBodyIn c binder.ForAll t = type_number c t ≡ 0
 IsBodyIn c binder.Exists t = type_number c t ≡ 0
 IsBodyIn c binder.Lambda t = Unit {0}
 IsBodyIn c binder.Choice t = type_number c t ≡ 0
+
+-- the type tree means some type
+pub record IsType (d : Declared) (ty : TypeTree) : Type 0 where
+  pub type : SimpleType
+  pub means : MeansType d ty type

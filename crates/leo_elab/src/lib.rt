@@ -1,6 +1,9 @@
 //! From parse trees to typed terms: what the types and formulas of a problem mean.
 #![tactic(auto)]
 
+mod checking;
+mod declaring;
+mod firsts;
 pub mod laws;
 mod names;
 mod quantifiers;
@@ -11,8 +14,10 @@ mod terms;
 mod types;
 mod typings;
 
+pub use declaring::declare_all;
+pub use firsts::Typing;
 pub use names::Names;
-pub use refusal::ElabRefusal;
+pub use refusal::{ElabRefusal, TypingsRefusal};
 pub use terms::elaborate;
 pub use typings::declare;
 

@@ -29,6 +29,16 @@ pub enum ElabRefusal {
     Memory,
 }
 
+/// Why a list of typings is refused.
+#[derive(Clone, Copy, Debug, PartialEq, Eq, Error)]
+pub enum TypingsRefusal {
+    /// The typing at that place of the list is the first that offends.
+    #[error("{refusal}")]
+    Offends { place: usize, refusal: ElabRefusal },
+    #[error("out of memory")]
+    Memory,
+}
+
 impl From<AllocError> for ElabRefusal {
     ghost from_gives = { λ _ refusal. refusal ≡ Memory };
 
@@ -42,5 +52,15 @@ impl<T: Drop> From<AllocFailed<T>> for ElabRefusal {
 
     fn from(_failed: AllocFailed<T>) -> ElabRefusal {
         ElabRefusal::Memory
+    }
+}
+
+impl From<AllocError> for TypingsRefusal {
+    ghost use Rattle.leo_elab.specs.declared.refusal.TypingsRefusal.TheVariants as typings_refusal;
+
+    ghost from_gives = { λ _ refusal. refusal ≡ typings_refusal.Memory };
+
+    fn from(_failed: AllocError) -> TypingsRefusal {
+        TypingsRefusal::Memory
     }
 }

@@ -9,26 +9,16 @@ ghost use Rattle.leo_elab.specs.Meaning.{MeansType};
 ghost use Rattle.leo_elab.specs.Offences.{OffendsInType};
 ghost use Rattle.leo_elab.specs.Declaring.{Declares, DeclaresType, IsUndeclared, OffendsInTyping, AreConstantsNamed};
 
+use crate::checking::declares_type;
 use crate::names::Names;
 use crate::refusal::ElabRefusal;
 use crate::types::{ROOM, read_type};
-use leo_syntax::{TypeNode, TypeTree, TypeWord};
+use leo_syntax::TypeTree;
 use leo_terms::{Bank, SymId};
 use std::alloc::Global;
 
-/// Whether a type is `$tType` as a whole.
-fn declares_type(ty: &TypeTree) -> bool
-    ensures yes { result ≡ true → DeclaresType ty.now }
-    ensures no { result ≡ false → ¬ DeclaresType ty.now }
-{
-    match &ty.node {
-        TypeNode::Base(word) => matches!(word, TypeWord::TypeOfTypes),
-        TypeNode::Arrow(_, _) => false,
-    }
-}
-
 /// Declares an atom as the next base type.
-fn declare_type(
+pub fn declare_type(
     alloc: Global,
     bank: &mut Bank,
     names: &mut Names,
@@ -44,6 +34,8 @@ fn declare_type(
     ensures constants { OnOk result (AreConstantsNamed bank.new names.new) }
     ensures declares { OnOk result (Declares (declared_in bank.old names.old) atom.now ty.now bank.old.bases (length bank.old.symbols) (declared_in bank.new names.new)) }
     ensures bases { bank.new.bases ≤ bank.old.bases + 1 }
+    ensures counted { OnOk result (bank.new.bases ≡ bank.old.bases + 1) }
+    ensures symbols { bank.new.symbols ≡ bank.old.symbols }
     ensures refusal { IfErr result (λ e. e ≡ Memory) }
     ensures grows { Extends bank.old bank.new }
 {
@@ -53,7 +45,7 @@ fn declare_type(
 }
 
 /// Declares an atom as a constant.
-fn declare_constant(
+pub fn declare_constant(
     alloc: Global,
     bank: &mut Bank,
     names: &mut Names,
@@ -68,6 +60,7 @@ fn declare_constant(
     ensures declares { OnOk result (Declares (declared_in bank.old names.old) atom.now ty.now bank.old.bases (length bank.old.symbols) (declared_in bank.new names.new)) }
     ensures refusal { IfErr result (λ e. e ≢ Memory → OffendsInType (declared_in bank.old names.old) ty.now e) }
     ensures bases { bank.new.bases ≡ bank.old.bases }
+    ensures counted { OnOk result (length bank.new.symbols ≡ length bank.old.symbols + 1) }
     ensures grows { Extends bank.old bank.new }
 {
     let number = read_type(bank, names, ty, ROOM)?;

@@ -1,0 +1,10 @@
+pub mod Limits
+pub mod Roles
+pub mod Texts
+pub mod Gathering
+pub mod Theories
+pub mod Loading
+pub mod Steps
+pub mod Places
+pub mod Pieces
+pub mod Gathered
