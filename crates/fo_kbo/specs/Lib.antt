@@ -4,3 +4,4 @@ pub mod Laws
 pub mod Nodes
 pub mod Heads
 pub mod Difference
+pub mod Outward

@@ -96,7 +96,7 @@ module _ (ns : List FoNode) (at e : ℕ) (f : IsFull ns) (b : IsBehind ns at e) 
   pub slice_range-term : slice_range ns at e ≡ prefix (term_at ns at)
   slice_range-term = ap (take (e - at)) parts ∙ take_at (prefix (term_at ns at)) (drop e ns) (e - at) length-term
 
-  node_of : (q : ℕ) → q < length (prefix (term_at ns at)) → slice_get ns (at + q) ≡ slice_get (prefix (term_at ns at)) q
+  pub node_of : (q : ℕ) → q < length (prefix (term_at ns at)) → slice_get ns (at + q) ≡ slice_get (prefix (term_at ns at)) q
   node_of q h = sym (slice_get-drop ns at q) ∙ ap (λ (ms : List FoNode). slice_get ms q) parts ∙ slice_get-left (prefix (term_at ns at)) (drop e ns) q h
 
   pub place_of : (v : ℕ) → occurs v (term_at ns at) ≡ true → (p : ℕ) × (at ≤ p) × (p < e) × (slice_get ns p ≡ Some (Var v))
