@@ -8,13 +8,12 @@ use Rattle.fo_terms.specs.Terms.{Term, Terms, variable, symbol, none, more, coun
 use Rattle.fo_terms.specs.Prefix.{prefix, term_of, terms_of, IsPrefix}
 use Rattle.fo_terms.specs.Reading.{terms_of-prefix}
 use Rattle.fo_terms.specs.Places.{terms_at, term_at, arguments_of, IsFull, IsBehind}
-use Rattle.fo_terms.proofs.AtPlaces.{terms_at-node, terms_at-zero, count-terms_after, IsPrefix-full, IsPrefix-count, some_at}
+use Rattle.fo_terms.proofs.AtPlaces.{terms_at-node, terms_at-zero, count-terms_after, IsPrefix-count, some_at}
 use Rattle.fo_kbo.specs.declared.order.FoOrder.{FoOrder}
 use Rattle.fo_kbo.specs.declared.order.FoOrder.TheVariants.{Less, Equal, Greater, Unordered}
 use Rattle.fo_kbo.specs.declared.heads.Heads.{Heads}
-use Rattle.fo_kbo.specs.declared.heads.Heads.TheVariants.{First, Second, Apart, Same}
+use Rattle.fo_kbo.specs.declared.heads.Heads.TheVariants.{First, Second}
 use Rattle.fo_kbo.specs.declared.outward.Level.{Level}
-use Rattle.fo_kbo.specs.Occurrences.{Covers}
 use Rattle.fo_kbo.specs.Order.{IsGreater, FirstIsGreater, IsOrder}
 use Rattle.fo_kbo.specs.Heads.{IsHeads}
 use Rattle.fo_kbo.specs.Outward.{AreSameBefore, AreOrdered, ArePassed, IsOver, heads_of}

@@ -5,3 +5,4 @@ pub mod Nodes
 pub mod Heads
 pub mod Difference
 pub mod Outward
+pub mod Tallies

@@ -9,5 +9,6 @@ mod nodes;
 pub mod order;
 mod outward;
 mod passing;
+mod tally;
 #[cfg(test)]
 mod tests;

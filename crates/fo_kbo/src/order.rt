@@ -14,9 +14,11 @@ pub enum FoOrder {
     Unordered,
 }
 
-/// How two terms compare in the Knuth-Bendix order. No memory is taken. The nodes are looked at once,
-/// and at each level around the first difference the occurrences of the variables of one side are
-/// counted, where weights and heads leave it open what the order is.
+/// How two terms compare in the Knuth-Bendix order. No memory is taken.
+///
+/// The time is linear in the nodes of the terms where the variables behind their first difference
+/// have numbers below 64. Where one has a larger number, the occurrences of the variables of one side
+/// are counted at each level around that difference.
 pub fn compare(first: &FoTerm, second: &FoTerm) -> FoOrder
     ensures { IsOrder first.now second.now result }
 {

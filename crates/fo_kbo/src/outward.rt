@@ -4,16 +4,19 @@
 ghost use Rattle.std.specs.Prelude.{◌≡◌, ◌<◌, ◌≤◌, ◌+◌, ◌^◌, ℕ, length, slice_get, Some};
 ghost use Rattle.fo_terms.specs.declared.term.FoNode.{FoNode};
 ghost use Rattle.fo_terms.specs.Prefix.{term_of, IsPrefix};
+ghost use Rattle.fo_terms.specs.Places.{term_at};
 ghost use Rattle.fo_kbo.specs.Order.{IsOrder};
+ghost use Rattle.fo_kbo.specs.Tallies.{IsTally, AreTallied};
 ghost use Rattle.fo_kbo.specs.Heads.{IsHeads};
 ghost use Rattle.fo_kbo.specs.Outward.{AreSameBefore, AreOrdered, IsTurn, IsOver, heads_of};
 
 use crate::descent::compare_different;
 use crate::difference::end_of;
 use crate::heads::{Heads, compare_heads};
-use crate::nodes::{covers, is_same_node, node_at, part};
+use crate::nodes::{is_same_node, node_at, part};
 use crate::order::FoOrder;
 use crate::passing::{arguments, pass};
+use crate::tally::{Tally, covers_at};
 use fo_terms::term::FoNode;
 
 /// Terms that begin at one place of two lists, with the places behind them and their order.
@@ -49,49 +52,72 @@ pub(crate) fn first_unlike(left: &[FoNode], right: &[FoNode]) -> usize
     at
 }
 
-/// The order that the heads or the weights say, where the variables allow it.
-fn order_by(heads: Heads, left: &[FoNode], right: &[FoNode]) -> FoOrder
+/// How often variables occur behind the first place where the nodes differ, in the two lists.
+#[derive(Clone, Copy, Debug)]
+struct Tallies {
+    left: Tally,
+    right: Tally,
+}
+
+/// The order that the heads or the weights of two terms say, where the variables allow it.
+fn order_by(
+    heads: Heads,
+    left: &[FoNode],
+    right: &[FoNode],
+    tallies: &Tallies,
+    at: usize,
+    left_end: usize,
+    right_end: usize,
+) -> FoOrder
     requires left { IsPrefix left.now }
     requires right { IsPrefix right.now }
-    requires different { term_of left.now ≡ term_of right.now → ⊥ }
-    requires heads { IsHeads (term_of left.now) (term_of right.now) heads }
-    ensures { IsOrder (term_of left.now) (term_of right.now) result }
+    requires tallied { AreTallied left.now right.now at left_end right_end tallies.now.left tallies.now.right }
+    requires different { term_at left.now at ≡ term_at right.now at → ⊥ }
+    requires heads { IsHeads (term_at left.now at) (term_at right.now at) heads }
+    ensures { IsOrder (term_at left.now at) (term_at right.now at) result }
 {
     match heads {
         Heads::First => {
-            if covers(left, right) {
+            let both = (&tallies.left, &tallies.right);
+            if covers_at(left, right, both, at, left_end, right_end) {
                 FoOrder::Greater
             } else {
                 FoOrder::Unordered
             }
         }
         Heads::Second => {
-            if covers(right, left) {
+            let turned = (&tallies.right, &tallies.left);
+            if covers_at(right, left, turned, at, right_end, left_end) {
                 FoOrder::Less
             } else {
                 FoOrder::Unordered
             }
         }
         Heads::Apart => FoOrder::Unordered,
-        Heads::Same => compare_different(left, right),
+        Heads::Same => compare_different(part(left, at, left_end), part(right, at, right_end)),
     }
 }
 
 /// The terms at the first place where the nodes differ.
-fn innermost(left: &[FoNode], right: &[FoNode], at: usize) -> Level
+fn innermost(left: &[FoNode], right: &[FoNode], at: usize, tallies: &mut Tallies) -> Level
     requires left { IsPrefix left.now }
     requires right { IsPrefix right.now }
     requires left_inside { at < length left.now }
     requires right_inside { at < length right.now }
+    requires same { AreSameBefore left.now right.now at }
     requires unlike { (n : FoNode) → slice_get left.now at ≡ Some n → slice_get right.now at ≡ Some n → ⊥ }
+    requires left_fresh { IsTally left.now at at tallies.old.left }
+    requires right_fresh { IsTally right.now at at tallies.old.right }
     ensures at { result.at ≡ at }
     ensures ordered { AreOrdered left.now right.now result }
+    ensures tallied { AreTallied left.now right.now result.at result.left_end result.right_end tallies.new.left tallies.new.right }
 {
     let left_end = end_of(left, at);
     let right_end = end_of(right, at);
-    let first = part(left, at, left_end);
-    let second = part(right, at, right_end);
-    let order = order_by(compare_heads(first, second), first, second);
+    tallies.left.extend(left, at, left_end);
+    tallies.right.extend(right, at, right_end);
+    let heads = compare_heads(part(left, at, left_end), part(right, at, right_end));
+    let order = order_by(heads, left, right, tallies, at, left_end, right_end);
     Level {
         at,
         left_end,
@@ -132,22 +158,29 @@ fn by_weight(order: FoOrder, left_end: usize, right_end: usize) -> Heads
 }
 
 /// The terms around those of a level.
-fn around(left: &[FoNode], right: &[FoNode], level: Level, here: usize, missing: usize) -> Level
+fn around(
+    left: &[FoNode],
+    right: &[FoNode],
+    tallies: &mut Tallies,
+    level: Level,
+    here: usize,
+    missing: usize,
+) -> Level
     requires left { IsPrefix left.now }
     requires right { IsPrefix right.now }
     requires ordered { AreOrdered left.now right.now level }
     requires over { IsOver left.now right.now level here missing }
+    requires tallied { AreTallied left.now right.now level.at level.left_end level.right_end tallies.old.left tallies.old.right }
     ensures at { result.at ≡ here }
     ensures ordered { AreOrdered left.now right.now result }
+    ensures tallied { AreTallied left.now right.now result.at result.left_end result.right_end tallies.new.left tallies.new.right }
 {
     let left_end = pass(left, level.left_end, missing);
     let right_end = pass(right, level.right_end, missing);
+    tallies.left.extend(left, level.left_end, left_end);
+    tallies.right.extend(right, level.right_end, right_end);
     let heads = by_weight(level.order, left_end, right_end);
-    let order = order_by(
-        heads,
-        part(left, here, left_end),
-        part(right, here, right_end),
-    );
+    let order = order_by(heads, left, right, tallies, here, left_end, right_end);
     Level {
         at: here,
         left_end,
@@ -166,7 +199,11 @@ pub(crate) fn compare_from(left: &[FoNode], right: &[FoNode], at: usize) -> FoOr
     requires unlike { (n : FoNode) → slice_get left.now at ≡ Some n → slice_get right.now at ≡ Some n → ⊥ }
     ensures { IsOrder (term_of left.now) (term_of right.now) result }
 {
-    let mut level = innermost(left, right, at);
+    let mut tallies = Tallies {
+        left: Tally::new(),
+        right: Tally::new(),
+    };
+    let mut level = innermost(left, right, at, &mut tallies);
     let mut here = at;
     let mut passed = 0;
     while here > 0 {
@@ -174,7 +211,7 @@ pub(crate) fn compare_from(left: &[FoNode], right: &[FoNode], at: usize) -> FoOr
         match turn_at(node_at(left, here), passed) {
             Turn::Passed(now) => passed = now,
             Turn::Opened(missing) => {
-                level = around(left, right, level, here, missing);
+                level = around(left, right, &mut tallies, level, here, missing);
                 passed = 0;
             }
         }

@@ -1,4 +1,4 @@
-use Rattle.std.proofs.Common.{◌<◌, arith}
+use Rattle.std.proofs.Common.{arith}
 use Rattle.fo_terms.proofs.AtPlaces.{some_at}
 use Rattle.fo_kbo.proofs.difference.end_of.Goals as goal
 

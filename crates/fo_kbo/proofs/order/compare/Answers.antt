@@ -1,5 +1,4 @@
-use Rattle.std.proofs.Common.{◌≡◌, ◌<◌, ◌≤◌, length, sym, arith}
-use Rattle.fo_terms.specs.Prefix.{term_of}
+use Rattle.std.proofs.Common.{◌≤◌, length, sym, arith}
 use Rattle.fo_kbo.proofs.Comparing.{IsPrefix-is, term_of-is}
 use Rattle.fo_kbo.proofs.Around.{begins-same}
 use Rattle.fo_kbo.proofs.order.compare.Goals as goal

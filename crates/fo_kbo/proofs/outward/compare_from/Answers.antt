@@ -1,4 +1,4 @@
-use Rattle.std.proofs.Common.{suc, ◌+◌, ◌-◌, ◌≡◌, ◌<◌, ◌≤◌, ◌∙◌, sym, arith, Some}
+use Rattle.std.proofs.Common.{suc, ◌-◌, ◌≡◌, ◌∙◌, sym, arith, Some}
 use Rattle.std.specs.Prelude.{slice_get}
 use Rattle.fo_kbo.specs.Outward.{ArePassed}
 use Rattle.fo_kbo.proofs.Around.{passed-node, order-whole}
@@ -14,6 +14,7 @@ loop-here-preserved-in-Passed c =
       c.loop-here.invariant.0,
       passed-node c.args.left.now c.args.right.now (c.loop-here.here - 1) c.loop-here.level.at c.loop-here.passed c.in-Passed.now c.node_at.result c.node_at.ensures same c.in-Passed.ensures.0 c.in-Passed.ensures.1 behind,
       within,
+      c.loop-here.invariant.3,
     )
 
 pub returns : goal.returns

@@ -1,5 +1,4 @@
-use Rattle.std.proofs.Common.{◌≡◌, ◌∙◌}
-use Rattle.fo_terms.specs.Prefix.{prefix}
+use Rattle.std.proofs.Common.{◌∙◌}
 use Rattle.fo_terms.specs.Places.{term_at}
 use Rattle.fo_terms.proofs.AtPlaces.{IsPrefix-full}
 use Rattle.fo_terms.proofs.Spans.{slice_range-term}
@@ -13,34 +12,18 @@ end_of-left_end-requires-clause-full c = IsPrefix-full c.args.left.now c.require
 pub end_of-right_end-requires-clause-full : goal.end_of-right_end-requires-clause-full
 end_of-right_end-requires-clause-full c = IsPrefix-full c.args.right.now c.requires.right
 
-pub compare_heads-requires-clause-left : goal.compare_heads-requires-clause-left
-compare_heads-requires-clause-left c =
-    let first : c.part-first.result.now ≡ prefix (term_at c.args.left.now c.args.at) = c.part-first.ensures ∙ slice_range-term c.args.left.now c.args.at c.end_of-left_end.result (IsPrefix-full c.args.left.now c.requires.left) c.end_of-left_end.ensures in
-    IsPrefix-is c.part-first.result.now (term_at c.args.left.now c.args.at) first
+pub compare_heads-heads-requires-clause-left : goal.compare_heads-heads-requires-clause-left
+compare_heads-heads-requires-clause-left c = IsPrefix-is c.part.result.now (term_at c.args.left.now c.args.at) (c.part.ensures ∙ slice_range-term c.args.left.now c.args.at c.end_of-left_end.result (IsPrefix-full c.args.left.now c.requires.left) c.end_of-left_end.ensures)
 
-pub compare_heads-requires-clause-right : goal.compare_heads-requires-clause-right
-compare_heads-requires-clause-right c =
-    let second : c.part-second.result.now ≡ prefix (term_at c.args.right.now c.args.at) = c.part-second.ensures ∙ slice_range-term c.args.right.now c.args.at c.end_of-right_end.result (IsPrefix-full c.args.right.now c.requires.right) c.end_of-right_end.ensures in
-    IsPrefix-is c.part-second.result.now (term_at c.args.right.now c.args.at) second
-
-pub order_by-order-requires-clause-left : goal.order_by-order-requires-clause-left
-order_by-order-requires-clause-left c =
-    let first : c.part-first.result.now ≡ prefix (term_at c.args.left.now c.args.at) = c.part-first.ensures ∙ slice_range-term c.args.left.now c.args.at c.end_of-left_end.result (IsPrefix-full c.args.left.now c.requires.left) c.end_of-left_end.ensures in
-    IsPrefix-is c.part-first.result.now (term_at c.args.left.now c.args.at) first
-
-pub order_by-order-requires-clause-right : goal.order_by-order-requires-clause-right
-order_by-order-requires-clause-right c =
-    let second : c.part-second.result.now ≡ prefix (term_at c.args.right.now c.args.at) = c.part-second.ensures ∙ slice_range-term c.args.right.now c.args.at c.end_of-right_end.result (IsPrefix-full c.args.right.now c.requires.right) c.end_of-right_end.ensures in
-    IsPrefix-is c.part-second.result.now (term_at c.args.right.now c.args.at) second
+pub compare_heads-heads-requires-clause-right : goal.compare_heads-heads-requires-clause-right
+compare_heads-heads-requires-clause-right c = IsPrefix-is c.part-2.result.now (term_at c.args.right.now c.args.at) (c.part-2.ensures ∙ slice_range-term c.args.right.now c.args.at c.end_of-right_end.result (IsPrefix-full c.args.right.now c.requires.right) c.end_of-right_end.ensures)
 
 pub order_by-order-requires-clause-different : goal.order_by-order-requires-clause-different
-order_by-order-requires-clause-different c =
-    let first : c.part-first.result.now ≡ prefix (term_at c.args.left.now c.args.at) = c.part-first.ensures ∙ slice_range-term c.args.left.now c.args.at c.end_of-left_end.result (IsPrefix-full c.args.left.now c.requires.left) c.end_of-left_end.ensures in
-    let second : c.part-second.result.now ≡ prefix (term_at c.args.right.now c.args.at) = c.part-second.ensures ∙ slice_range-term c.args.right.now c.args.at c.end_of-right_end.result (IsPrefix-full c.args.right.now c.requires.right) c.end_of-right_end.ensures in
-    rw (term_of-is c.part-first.result.now (term_at c.args.left.now c.args.at) first, term_of-is c.part-second.result.now (term_at c.args.right.now c.args.at) second) (unlike-terms c.args.left.now c.args.right.now c.args.at c.end_of-left_end.result c.end_of-right_end.result (IsPrefix-full c.args.left.now c.requires.left) (IsPrefix-full c.args.right.now c.requires.right) c.end_of-left_end.ensures c.end_of-right_end.ensures c.requires.unlike)
+order_by-order-requires-clause-different c = unlike-terms c.args.left.now c.args.right.now c.args.at c.end_of-left_end.result c.end_of-right_end.result (IsPrefix-full c.args.left.now c.requires.left) (IsPrefix-full c.args.right.now c.requires.right) c.end_of-left_end.ensures c.end_of-right_end.ensures c.requires.unlike
+
+pub order_by-order-requires-clause-heads : goal.order_by-order-requires-clause-heads
+order_by-order-requires-clause-heads c =
+    rw (term_of-is c.part.result.now (term_at c.args.left.now c.args.at) (c.part.ensures ∙ slice_range-term c.args.left.now c.args.at c.end_of-left_end.result (IsPrefix-full c.args.left.now c.requires.left) c.end_of-left_end.ensures), term_of-is c.part-2.result.now (term_at c.args.right.now c.args.at) (c.part-2.ensures ∙ slice_range-term c.args.right.now c.args.at c.end_of-right_end.result (IsPrefix-full c.args.right.now c.requires.right) c.end_of-right_end.ensures)) at c.compare_heads-heads.ensures
 
 pub returns-clause-ordered : goal.returns-clause-ordered
-returns-clause-ordered c =
-    let first : c.part-first.result.now ≡ prefix (term_at c.args.left.now c.args.at) = c.part-first.ensures ∙ slice_range-term c.args.left.now c.args.at c.end_of-left_end.result (IsPrefix-full c.args.left.now c.requires.left) c.end_of-left_end.ensures in
-    let second : c.part-second.result.now ≡ prefix (term_at c.args.right.now c.args.at) = c.part-second.ensures ∙ slice_range-term c.args.right.now c.args.at c.end_of-right_end.result (IsPrefix-full c.args.right.now c.requires.right) c.end_of-right_end.ensures in
-    record { left = c.end_of-left_end.ensures; right = c.end_of-right_end.ensures; different = unlike-terms c.args.left.now c.args.right.now c.args.at c.end_of-left_end.result c.end_of-right_end.result (IsPrefix-full c.args.left.now c.requires.left) (IsPrefix-full c.args.right.now c.requires.right) c.end_of-left_end.ensures c.end_of-right_end.ensures c.requires.unlike; order = rw (term_of-is c.part-first.result.now (term_at c.args.left.now c.args.at) first, term_of-is c.part-second.result.now (term_at c.args.right.now c.args.at) second) at c.order_by-order.ensures }
+returns-clause-ordered c = record { left = c.end_of-left_end.ensures; right = c.end_of-right_end.ensures; different = unlike-terms c.args.left.now c.args.right.now c.args.at c.end_of-left_end.result c.end_of-right_end.result (IsPrefix-full c.args.left.now c.requires.left) (IsPrefix-full c.args.right.now c.requires.right) c.end_of-left_end.ensures c.end_of-right_end.ensures c.requires.unlike; order = c.order_by-order.ensures }
