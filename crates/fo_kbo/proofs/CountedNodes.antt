@@ -10,10 +10,10 @@ use Rattle.fo_terms.specs.Prefix.{prefix, prefix_of_all, term_of, IsPrefix}
 use Rattle.fo_kbo.specs.Occurrences.{occurrences, occurrences_in_all, Covers}
 use Rattle.fo_kbo.specs.Nodes.{is_node_of, covers_at}
 
-count_by-cons : (p : FoNode → Bool) (x : FoNode) (xs : List FoNode) → count_by p (x ∷ xs) ≡ cond (p x) 1 0 + count_by p xs
+pub count_by-cons : (p : FoNode → Bool) (x : FoNode) (xs : List FoNode) → count_by p (x ∷ xs) ≡ cond (p x) 1 0 + count_by p xs
 count_by-cons p x xs = let h = sum_by_from (λ y. cond (p y) 1 0) (0 + cond (p x) 1 0) xs in omega arith
 
-count_by-append : (p : FoNode → Bool) (xs ys : List FoNode) → count_by p (xs ++ ys) ≡ count_by p xs + count_by p ys
+pub count_by-append : (p : FoNode → Bool) (xs ys : List FoNode) → count_by p (xs ++ ys) ≡ count_by p xs + count_by p ys
 count_by-append p xs ys = sum_by-append (λ y. cond (p y) 1 0) xs ys
 
 mutual

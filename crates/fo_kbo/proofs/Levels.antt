@@ -12,7 +12,7 @@ use Rattle.fo_kbo.specs.Occurrences.{Covers}
 use Rattle.fo_kbo.specs.Order.{IsGreater, FirstIsGreater}
 use Rattle.fo_kbo.specs.Heads.{HaveSameHeads}
 use Rattle.fo_kbo.specs.Difference.{IsRest, IsDifference}
-use Rattle.fo_kbo.proofs.Scanning.{slice_range-term, length-term}
+use Rattle.fo_terms.proofs.Spans.{slice_range-term, length-term}
 use Rattle.fo_kbo.proofs.Ordering.{irreflexive, variable_is_least, size-positive}
 
 pub greater_covers : (s t : Term) → IsGreater s t → Covers s t
@@ -104,7 +104,7 @@ rest-inside ns ms at r =
     let n = nonempty (terms_at ns at) (terms_at ms at) r.same_size r.different in
     (below_length ns at n.0, below_length ms at n.1)
 
-parted : (ts : Terms) → 0 < count ts → ts ≡ more (first_term ts) (terms_after 1 ts)
+pub parted : (ts : Terms) → 0 < count ts → ts ≡ more (first_term ts) (terms_after 1 ts)
 parted none h = absurd (omega arith)
 parted (more t ts) h = refl
 

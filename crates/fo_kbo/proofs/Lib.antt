@@ -3,6 +3,8 @@ pub mod Ordering
 pub mod CountedNodes
 pub mod Scanning
 pub mod Levels
+pub mod Around
+pub mod Tallying
 pub mod Comparing
 pub mod Weighing
 pub mod SameNodes

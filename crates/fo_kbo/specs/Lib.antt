@@ -4,3 +4,5 @@ pub mod Laws
 pub mod Nodes
 pub mod Heads
 pub mod Difference
+pub mod Outward
+pub mod Tallies

@@ -1,12 +1,13 @@
 //! The first arguments in which two terms differ.
 
-ghost use Rattle.std.specs.Prelude.{◌≡◌, ◌<◌, ◌^◌, length};
+ghost use Rattle.std.specs.Prelude.{◌≡◌, ◌<◌, length};
 ghost use Rattle.fo_terms.specs.Prefix.{term_of, IsPrefix};
-ghost use Rattle.fo_terms.specs.Places.{IsFull, IsBehind, arguments_of};
+ghost use Rattle.fo_terms.specs.Places.{IsFull, IsBehind};
 ghost use Rattle.fo_kbo.specs.Heads.{HaveSameHeads};
 ghost use Rattle.fo_kbo.specs.Difference.{IsDifference};
 
-use crate::nodes::{is_same, node_at};
+use crate::nodes::is_same;
+use crate::passing::pass;
 use fo_terms::term::FoNode;
 
 /// Where two arguments begin, and where each ends.
@@ -18,30 +19,12 @@ pub(crate) struct Difference {
 }
 
 /// The place behind the term at a place.
-fn end_of(nodes: &[FoNode], at: usize) -> usize
+pub(crate) fn end_of(nodes: &[FoNode], at: usize) -> usize
     requires full { IsFull nodes.now }
     requires inside { at < length nodes.now }
     ensures { IsBehind nodes.now at result }
 {
-    let _length = nodes.len();
-    let mut here = at;
-    let mut missing: usize = 1;
-    while missing > 0 {
-        missing = missing - 1 + arguments(node_at(nodes, here));
-        here += 1;
-    }
-    here
-}
-
-/// How many terms stand behind a node as its arguments.
-fn arguments(node: FoNode) -> usize
-    ensures result { result ≡ arguments_of node }
-    ensures small { result < 2 ^ 32 }
-{
-    match node {
-        FoNode::Var(_) => 0,
-        FoNode::Sym(_, arguments) => arguments as usize,
-    }
+    pass(nodes, at, 1)
 }
 
 /// The first arguments in which two different terms with equal weights and heads differ.

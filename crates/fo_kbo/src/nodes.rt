@@ -32,6 +32,13 @@ pub(crate) fn is_same(left: &[FoNode], right: &[FoNode]) -> bool
     left == right
 }
 
+/// Whether two nodes are the same.
+pub(crate) fn is_same_node(left: FoNode, right: FoNode) -> bool
+    ensures { IsTrue result ↔ (left ≡ right) }
+{
+    left == right
+}
+
 fn is_node_of_variable(node: FoNode, variable: u32) -> bool
     ensures { result ≡ is_node_of variable node }
 {

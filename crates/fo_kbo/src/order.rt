@@ -1,14 +1,9 @@
 //! The order.
 
-ghost use Rattle.std.specs.Prelude.{◌≡◌, ◌<◌, ◌↔◌, IsTrue, if◌then◌else◌};
-ghost use Rattle.fo_terms.specs.Prefix.{term_of, IsPrefix};
-ghost use Rattle.fo_kbo.specs.Occurrences.{Covers};
 ghost use Rattle.fo_kbo.specs.Order.{IsOrder};
 
-use crate::difference::first_difference;
-use crate::heads::{Heads, compare_heads};
-use crate::nodes::{covers, is_same, part};
-use fo_terms::term::{FoNode, FoTerm};
+use crate::outward::{compare_from, first_unlike};
+use fo_terms::term::FoTerm;
 
 /// How two terms compare.
 #[derive(Clone, Copy, Debug, PartialEq, Eq)]
@@ -19,58 +14,20 @@ pub enum FoOrder {
     Unordered,
 }
 
-/// How two terms compare in the Knuth-Bendix order. No memory is taken; the time grows with the size
-/// of the terms times the number of their variables, at each level down to the first difference.
+/// How two terms compare in the Knuth-Bendix order. No memory is taken.
+///
+/// The time is linear in the nodes of the terms where the variables behind their first difference
+/// have numbers below 64. Where one has a larger number, the occurrences of the variables of one side
+/// are counted at each level around that difference.
 pub fn compare(first: &FoTerm, second: &FoTerm) -> FoOrder
     ensures { IsOrder first.now second.now result }
 {
     let left = first.nodes();
     let right = second.nodes();
-    if is_same(left, right) {
-        return FoOrder::Equal;
+    let at = first_unlike(left, right);
+    if at < left.len() && at < right.len() {
+        compare_from(left, right, at)
+    } else {
+        FoOrder::Equal
     }
-    compare_different(left, right)
-}
-
-/// The order of two different terms: down the first arguments that differ, until a level decides.
-fn compare_different(first: &[FoNode], second: &[FoNode]) -> FoOrder
-    requires first { IsPrefix first.now }
-    requires second { IsPrefix second.now }
-    requires different { term_of first.now ≡ term_of second.now → ⊥ }
-    ensures { IsOrder (term_of first.now) (term_of second.now) result }
-{
-    let mut left = first;
-    let mut right = second;
-    let mut may_be_greater = true;
-    let mut may_be_less = true;
-    loop {
-        may_be_greater = may_still_be(may_be_greater, left, right);
-        may_be_less = may_still_be(may_be_less, right, left);
-        match compare_heads(left, right) {
-            Heads::First => return decided(may_be_greater, FoOrder::Greater),
-            Heads::Second => return decided(may_be_less, FoOrder::Less),
-            Heads::Apart => return FoOrder::Unordered,
-            Heads::Same => {
-                let found = first_difference(left, right);
-                left = part(left, found.at, found.left_end);
-                right = part(right, found.at, found.right_end);
-            }
-        }
-    }
-}
-
-/// Whether a term may be the greater one, after a look at its variables.
-fn may_still_be(may_be: bool, left: &[FoNode], right: &[FoNode]) -> bool
-    requires left { IsPrefix left.now }
-    requires right { IsPrefix right.now }
-    ensures { IsTrue result ↔ (IsTrue may_be × Covers (term_of left.now) (term_of right.now)) }
-{
-    may_be && covers(left, right)
-}
-
-/// The order, if it may be that one.
-fn decided(may_be: bool, order: FoOrder) -> FoOrder
-    ensures { result ≡ (if may_be then order else FoOrder.Unordered) }
-{
-    if may_be { order } else { FoOrder::Unordered }
 }

@@ -64,3 +64,35 @@ fn the_first_differing_arguments_decide(rt: HostRuntime) -> Result<(), Fail> {
     );
     Ok(())
 }
+
+#[test]
+fn variables_with_large_numbers(rt: HostRuntime) -> Result<(), Fail> {
+    let x = FoNode::Var(4_000_000_000);
+    let y = FoNode::Var(64);
+    assert_eq!(rt; order(rt.alloc(), &[F, x], &[x])?, FoOrder::Greater);
+    assert_eq!(rt; order(rt.alloc(), &[F, x], &[y])?, FoOrder::Unordered);
+    assert_eq!(rt;
+        order(rt.alloc(), &[G, x, y], &[G, y, x])?,
+        FoOrder::Unordered
+    );
+    assert_eq!(rt; order(rt.alloc(), &[F, x], &[G, x, y])?, FoOrder::Less);
+    Ok(())
+}
+
+#[test]
+fn a_symbol_with_two_counts_of_arguments(rt: HostRuntime) -> Result<(), Fail> {
+    let both = FoNode::Sym(0, 2);
+    assert_eq!(rt;
+        order(rt.alloc(), &[F, F, D], &[both, C, C])?,
+        FoOrder::Greater
+    );
+    assert_eq!(rt;
+        order(rt.alloc(), &[F, F, V0], &[both, C, V0])?,
+        FoOrder::Greater
+    );
+    assert_eq!(rt;
+        order(rt.alloc(), &[both, C, V0], &[F, F, V0])?,
+        FoOrder::Less
+    );
+    Ok(())
+}

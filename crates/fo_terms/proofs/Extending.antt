@@ -1,6 +1,6 @@
 -- One more binding: what it makes of the substitution, and which substitutions absorb it then.
 use Rattle.std.proofs.Common.{ℕ, zero, suc, ◌≡◌, ◌≢◌, ◌<◌, true, false, List, [], ◌∷◌, ◌++◌, length, Some, refl, sym, ◌∙◌, ap, arith, ◌⊎◌, inl, inr, rules}
-use Rattle.std.specs.Prelude.{nat_eq, slice_get}
+use Rattle.std.specs.Prelude.{nat_eq, slice_get, fold}
 use Rattle.std.proofs.lemmas.List.Sums.{fold_push}
 use Rattle.std.proofs.lemmas.Option.{slice_get_within}
 use Rattle.fo_terms.specs.declared.term.FoNode.{FoNode}
@@ -9,7 +9,7 @@ use Rattle.fo_terms.specs.declared.bindings.Binding.{Binding}
 use Rattle.fo_terms.specs.Terms.{Term, variable, occurs, first_term}
 use Rattle.fo_terms.specs.Substitutions.{Substitution, apply}
 use Rattle.fo_terms.specs.Places.{term_at}
-use Rattle.fo_terms.specs.Bindings.{single, extended, solution, IsFree, LeadsPast, IsResolved, AreBindings, Absorbs}
+use Rattle.fo_terms.specs.Bindings.{single, extended, solution, IsFree, LeadsPast, IsResolved, AreBindings, AreMade, Absorbs, Obeys}
 use Rattle.fo_terms.proofs.Substituting.{apply-variable, apply-apply, apply-same, nat_eq-refl, occurs-apply}
 use Rattle.fo_terms.proofs.AtPlaces.{terms_at-node}
 
@@ -48,6 +48,50 @@ apply-single v a t h =
 
 pub apply-absorbed : (r s : Substitution) → Absorbs r s → (t : Term) → apply r (apply s t) ≡ apply r t
 apply-absorbed r s h t = apply-apply r s t ∙ apply-same (λ v. apply r (s v)) r t (λ v o. h v)
+
+-- one more binding of a free variable, to a place where neither it nor a bound variable stands
+module _ (ns : List FoNode) (bs : List Binding) (g : AreMade ns bs) (b : Binding) (unbound : IsFree bs b.variable) (within : b.place < length ns) (resolved : IsResolved ns bs b.place) (other : slice_get ns b.place ≢ Some (Var b.variable)) where
+  inside_after : (k : ℕ) (c : Binding) → slice_get (bs ++ b ∷ []) k ≡ Some c → c.place < length ns
+  inside_after k c h = elim (slice_get-push bs b k c h) [ inl l ↦ g.inside k c l | inr r ↦ rw (← r.1) within ]
+
+  ordered_after : (k : ℕ) (c : Binding) → slice_get (bs ++ b ∷ []) k ≡ Some c → LeadsPast ns (bs ++ b ∷ []) (suc k) c.place
+  ordered_after k c h w j at (d, here, is) =
+      elim (slice_get-push bs b k c h) [
+        | inl l ↦ elim (slice_get-push bs b j d here) [
+          | inl m ↦ g.ordered k c l w j at (d, m, is)
+          | inr m ↦ (let p : k < length bs = slice_get_within bs k c l in omega arith)
+        ]
+        | inr r ↦ elim (slice_get-push bs b j d here) [
+          | inl m ↦ absurd (resolved w (rw (← r.1) at at) j d m is)
+          | inr m ↦ absurd (other (rw (← r.1, ← is, ← m.1) at at))
+        ]
+      ]
+
+  once_after : (i j : ℕ) (c d : Binding) → slice_get (bs ++ b ∷ []) i ≡ Some c → slice_get (bs ++ b ∷ []) j ≡ Some d → c.variable ≡ d.variable → i ≡ j
+  once_after i j c d h k e =
+      elim (slice_get-push bs b i c h) [
+        | inl l ↦ elim (slice_get-push bs b j d k) [
+          | inl m ↦ g.once i j c d l m e
+          | inr m ↦ absurd (unbound i c l (e ∙ ap (λ (x : Binding). x.variable) (sym m.1)))
+        ]
+        | inr l ↦ elim (slice_get-push bs b j d k) [
+          | inl m ↦ absurd (unbound j d m (sym e ∙ ap (λ (x : Binding). x.variable) (sym l.1)))
+          | inr m ↦ l.0 ∙ sym m.0
+        ]
+      ]
+
+  pub AreMade-push : AreMade ns (bs ++ b ∷ [])
+  AreMade-push = record { inside = inside_after; once = once_after; ordered = ordered_after }
+
+-- a substitution that obeys the bindings obeys one more
+pub Obeys-push : (ns : List FoNode) (bs : List Binding) (b : Binding) (r : Substitution) → Obeys ns bs r → r b.variable ≡ apply r (term_at ns b.place) → Obeys ns (bs ++ b ∷ []) r
+Obeys-push ns bs b r o e k c h = elim (slice_get-push bs b k c h) [ inl l ↦ o k c l | inr m ↦ rw (← m.1) e ]
+
+pub Obeys-before : (ns : List FoNode) (bs : List Binding) (b : Binding) (r : Substitution) → Obeys ns (bs ++ b ∷ []) r → Obeys ns bs r × (r b.variable ≡ apply r (term_at ns b.place))
+Obeys-before ns bs b r o = ((λ k c h. o k c (slice_get-kept bs (b ∷ []) k c h)), o (length bs) b (slice_get-pushed bs b))
+
+pub AreMade-from : (ns : List FoNode) (bs : List Binding) → AreBindings ns bs → AreMade ns bs
+AreMade-from ns bs g = record { inside = g.inside; once = g.once; ordered = g.ordered }
 
 module _ (ns : List FoNode) (bs : List Binding) (g : AreBindings ns bs) (b : Binding) (unbound : IsFree bs b.variable) (within : b.place < length ns) (resolved : IsResolved ns bs b.place) (absent : occurs b.variable (apply (solution ns bs) (term_at ns b.place)) ≡ false) where
   abbrev s : Substitution
@@ -98,59 +142,42 @@ module _ (ns : List FoNode) (bs : List Binding) (g : AreBindings ns bs) (b : Bin
             rw same (IsFree-push u.0 (g.images w u.0 u.1) (λ q. let t : nat_eq u.0 b.variable ≡ true = rw q (nat_eq-refl b.variable) in cc)))
       ]
 
-  ordered_after : (k : ℕ) (c : Binding) → slice_get (bs ++ b ∷ []) k ≡ Some c → LeadsPast ns (bs ++ b ∷ []) (suc k) c.place
-  ordered_after k c h w j at (d, here, is) =
-      elim (slice_get-push bs b k c h) [
-        | inl l ↦ elim (slice_get-push bs b j d here) [
-          | inl m ↦ g.ordered k c l w j at (d, m, is)
-          | inr m ↦ (let p : k < length bs = slice_get_within bs k c l in omega arith)
-        ]
-        | inr r ↦ elim (slice_get-push bs b j d here) [
-          | inl m ↦ absurd (resolved w (rw (← r.1) at at) j d m is)
-          | inr m ↦ (let self : slice_get ns b.place ≡ Some (Var b.variable) = rw (← r.1, ← is, ← m.1) at at in
-              let is_variable : term_at ns b.place ≡ variable b.variable = ap first_term (terms_at-node ns b.place (Var b.variable) self) in
-              let occurs_here : occurs b.variable put ≡ true = rw (is_variable, g.free b.variable unbound) (nat_eq-refl b.variable) in
-              absurd cc)
-        ]
-      ]
+  other : slice_get ns b.place ≢ Some (Var b.variable)
+  other self =
+      let is_variable : term_at ns b.place ≡ variable b.variable = ap first_term (terms_at-node ns b.place (Var b.variable) self) in
+      let occurs_here : occurs b.variable put ≡ true = rw (is_variable, g.free b.variable unbound) (nat_eq-refl b.variable) in
+      cc
 
-  once_after : (i j : ℕ) (c d : Binding) → slice_get (bs ++ b ∷ []) i ≡ Some c → slice_get (bs ++ b ∷ []) j ≡ Some d → c.variable ≡ d.variable → i ≡ j
-  once_after i j c d h k e =
-      elim (slice_get-push bs b i c h) [
-        | inl l ↦ elim (slice_get-push bs b j d k) [
-          | inl m ↦ g.once i j c d l m e
-          | inr m ↦ absurd (unbound i c l (e ∙ ap (λ (x : Binding). x.variable) (sym m.1)))
-        ]
-        | inr l ↦ elim (slice_get-push bs b j d k) [
-          | inl m ↦ absurd (unbound j d m (sym e ∙ ap (λ (x : Binding). x.variable) (sym l.1)))
-          | inr m ↦ l.0 ∙ sym m.0
-        ]
-      ]
+  made : AreMade ns (bs ++ b ∷ [])
+  made = AreMade-push ns bs (AreMade-from ns bs g) b unbound within resolved other
 
   pub AreBindings-push : AreBindings ns (bs ++ b ∷ [])
   AreBindings-push = record {
     bound = λ k c h. rw solution-push (bound_after k c h);
     free = λ v h. rw solution-push (free_after v h);
     images = λ w v h. images_after w v (rw solution-push at h);
-    inside = λ k c h. elim (slice_get-push bs b k c h) [ inl l ↦ g.inside k c l | inr r ↦ rw (← r.1) within ];
-    once = once_after;
-    ordered = ordered_after;
+    inside = made.inside;
+    once = made.once;
+    ordered = made.ordered;
   }
 
-  through_single : (r : Substitution) → r b.variable ≡ apply r put → (u : ℕ) → apply r (single b.variable put u) ≡ r u
-  through_single r h u = elim (equal_or_not u b.variable) [
-    | inl e ↦ rw (e, single-same b.variable put) (sym h)
-    | inr n ↦ rw (single-other b.variable put u n) refl
-  ]
+-- what obeys bindings absorbs what they make, and the other way round
+through_single : (v : ℕ) (t : Term) (r : Substitution) → r v ≡ apply r t → (u : ℕ) → apply r (single v t u) ≡ r u
+through_single v t r h u = elim (equal_or_not u v) [
+  | inl e ↦ rw (e, single-same v t) (sym h)
+  | inr n ↦ rw (single-other v t u n) refl
+]
 
-  pub Absorbs-push : (r : Substitution) → Absorbs r s → r b.variable ≡ apply r (term_at ns b.place) → Absorbs r (solution ns (bs ++ b ∷ []))
-  Absorbs-push r h e =
-      let full : r b.variable ≡ apply r put = e ∙ sym (apply-absorbed r s h (term_at ns b.place)) in
-      rw solution-push (λ w. apply-absorbed r (single b.variable put) (through_single r full) (s w) ∙ h w)
+Absorbs-fold : (ns : List FoNode) (r s : Substitution) (bs : List Binding) → Absorbs r s → Obeys ns bs r → Absorbs r (fold (extended ns) s bs)
+Absorbs-fold ns r s [] a o = a
+Absorbs-fold ns r s (b ∷ bs) a o =
+    let put : Term = apply s (term_at ns b.place) in
+    let one : r b.variable ≡ apply r put = o 0 b refl ∙ sym (apply-absorbed r s a (term_at ns b.place)) in
+    Absorbs-fold ns r (extended ns s b) bs (λ w. apply-absorbed r (single b.variable put) (through_single b.variable put r one) (s w) ∙ a w) (λ k c h. o (suc k) c h)
 
-  pub Absorbs-before : (r : Substitution) → Absorbs r (solution ns (bs ++ b ∷ [])) → Absorbs r s × (r b.variable ≡ apply r (term_at ns b.place))
-  Absorbs-before r h' =
-      let h : Absorbs r after = rw solution-push at h' in
-      let full : r b.variable ≡ apply r put = sym (h b.variable) ∙ ap (apply r) after-variable in
-      let first : Absorbs r s = (λ w. sym (apply-absorbed r (single b.variable put) (through_single r full) (s w)) ∙ h w) in
-      (first, full ∙ apply-absorbed r s first (term_at ns b.place))
+pub Absorbs-obeyed : (ns : List FoNode) (bs : List Binding) (r : Substitution) → Obeys ns bs r → Absorbs r (solution ns bs)
+unfolding solution
+Absorbs-obeyed ns bs r o = Absorbs-fold ns r variable bs (λ w. refl) o
+
+pub Obeys-absorbed : (ns : List FoNode) (bs : List Binding) (r : Substitution) → AreBindings ns bs → Absorbs r (solution ns bs) → Obeys ns bs r
+Obeys-absorbed ns bs r g a k b h = sym (a b.variable) ∙ ap (apply r) (g.bound k b h) ∙ apply-absorbed r (solution ns bs) a (term_at ns b.place)

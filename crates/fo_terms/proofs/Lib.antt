@@ -1,8 +1,12 @@
 pub mod Substituting
+pub mod Depths
 pub mod AtPlaces
 pub mod Extending
+pub mod Joining
+pub mod Spans
 pub mod Walking
 pub mod Stepping
 pub mod Settling
 pub mod Unifying
 pub mod Resolving
+pub mod Arranging

@@ -8,7 +8,11 @@ use Rattle.fo_terms.specs.declared.term.FoNode.TheVariants.{Var, Sym}
 use Rattle.fo_terms.specs.declared.bindings.Binding.{Binding}
 use Rattle.fo_terms.specs.declared.bindings.Equation.{Equation}
 use Rattle.fo_terms.specs.declared.solve.Step.{Step}
-use Rattle.fo_terms.specs.Bindings.{solution, IsFree, IsWithin, Wants, Solves, weight, SaysTheSame, IsStep, is_bound, open_places}
+use Rattle.fo_terms.specs.Terms.{Term}
+use Rattle.fo_terms.specs.Substitutions.{Substitution}
+use Rattle.fo_terms.specs.Bindings.{IsFree, Obeys, is_bound, open_places}
+use Rattle.fo_terms.specs.Classes.{IsAlong}
+use Rattle.fo_terms.specs.Solving.{seen, IsWithin, Wants, Grants, Solves, steps, IsStep}
 
 -- a list that splits has its property on both parts
 pub All-left : {X : Type 0} (P : X → Type 0) (xs ys : List X) → All P (xs ++ ys) → All P xs
@@ -19,28 +23,28 @@ pub All-right : {X : Type 0} (P : X → Type 0) (xs ys : List X) → All P (xs +
 All-right P [] ys h = h
 All-right P (x ∷ xs) ys h = All-right P xs ys (All-tail P x (xs ++ ys) h)
 
-module _ (ns : List FoNode) (bs : List Binding) (first work rest new : List Equation) (e : Equation) (limit : ℕ) (step : Step) (popped : work ≡ rest ++ e ∷ []) (h : IsStep ns bs (λ r. Solves ns r e) limit rest new step) where
+module _ (ns : List FoNode) (bs : List Binding) (ps : List ℕ) (first work rest new : List Equation) (e : Equation) (step : Step) (popped : work ≡ rest ++ e ∷ []) (h : IsStep ns bs ps e rest new step) where
   pub settle-within : All (IsWithin ns) work → All (IsWithin ns) new
   settle-within w = All-same (IsWithin ns) new (rest ++ h.added) h.grown (All-append (IsWithin ns) rest h.added (All-left (IsWithin ns) rest (e ∷ []) (rw popped at w)) h.within)
 
-  pub settle-lighter : limit ≡ weight ns (solution ns bs) e → sum_by (weight ns (solution ns bs)) new < sum_by (weight ns (solution ns bs)) work
-  settle-lighter l =
-      let before : sum_by (weight ns (solution ns bs)) (rest ++ e ∷ []) ≡ sum_by (weight ns (solution ns bs)) rest + sum_by (weight ns (solution ns bs)) (e ∷ []) = sum_by-append (weight ns (solution ns bs)) rest (e ∷ []) in
-      let after : sum_by (weight ns (solution ns bs)) (rest ++ h.added) ≡ sum_by (weight ns (solution ns bs)) rest + sum_by (weight ns (solution ns bs)) h.added = sum_by-append (weight ns (solution ns bs)) rest h.added in
-      let light : sum_by (weight ns (solution ns bs)) h.added < weight ns (solution ns bs) e = rw l at h.lighter in
+  pub settle-fewer : sum_by steps new < sum_by steps work
+  settle-fewer =
+      let before : sum_by steps (rest ++ e ∷ []) ≡ sum_by steps rest + sum_by steps (e ∷ []) = sum_by-append steps rest (e ∷ []) in
+      let after : sum_by steps (rest ++ h.added) ≡ sum_by steps rest + sum_by steps h.added = sum_by-append steps rest h.added in
+      let few : sum_by steps h.added < steps e = h.fewer in
       rw (popped, h.grown) (omega arith)
 
-  pub settle-same : SaysTheSame (solution ns bs) (λ r. All (Solves ns r) first) (λ r. All (Solves ns r) work) → SaysTheSame (solution ns bs) (λ r. All (Solves ns r) first) (λ r. All (Solves ns r) new × Wants ns r step)
-  settle-same s = record {
-    from = λ r a k.
-        (let all : All (Solves ns r) (rest ++ e ∷ []) = rw popped at (s.from r a k) in
-        let one = h.same.from r a (All-head (Solves ns r) e [] (All-right (Solves ns r) rest (e ∷ []) all)) in
-        (All-same (Solves ns r) new (rest ++ h.added) h.grown (All-append (Solves ns r) rest h.added (All-left (Solves ns r) rest (e ∷ []) all) one.0), one.1));
-    back = λ r a k.
-        (let all : All (Solves ns r) (rest ++ h.added) = rw h.grown at k.0 in
-        let one : Solves ns r e = h.same.back r a (All-right (Solves ns r) rest h.added all, k.1) in
-        s.back r a (All-same (Solves ns r) work (rest ++ e ∷ []) popped (All-append (Solves ns r) rest (e ∷ []) (All-left (Solves ns r) rest h.added all) (All-cons (Solves ns r) e [] one (All-nil (Solves ns r))))));
-  }
+  pub settle-from : (g : Term → Term) (r : Substitution) → Obeys ns bs r → IsAlong (seen ns g r) ps → (All (Solves ns g r) first → All (Solves ns g r) work) → All (Solves ns g r) first → All (Solves ns g r) new × Wants ns g r step
+  settle-from g r o a before k =
+      let all : All (Solves ns g r) (rest ++ e ∷ []) = rw popped at (before k) in
+      let one = h.from g r o a (All-head (Solves ns g r) e [] (All-right (Solves ns g r) rest (e ∷ []) all)) in
+      (All-same (Solves ns g r) new (rest ++ h.added) h.grown (All-append (Solves ns g r) rest h.added (All-left (Solves ns g r) rest (e ∷ []) all) one.0), one.1)
+
+  pub settle-back : (g : Term → Term) (r : Substitution) → Obeys ns bs r → IsAlong (seen ns g r) ps → (All (Solves ns g r) work → All (Solves ns g r) first) → All (Solves ns g r) new → Grants ns g r step → All (Solves ns g r) first
+  settle-back g r o a before k t =
+      let all : All (Solves ns g r) (rest ++ h.added) = rw h.grown at k in
+      let one : Solves ns g r e = h.back g r o a (All-right (Solves ns g r) rest h.added all) t in
+      before (All-same (Solves ns g r) work (rest ++ e ∷ []) popped (All-append (Solves ns g r) rest (e ∷ []) (All-left (Solves ns g r) rest h.added all) (All-cons (Solves ns g r) e [] one (All-nil (Solves ns g r)))))
 
 -- ---- how many places are open
 

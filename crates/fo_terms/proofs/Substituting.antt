@@ -1,5 +1,5 @@
 -- Laws of substitution, of occurrence and of size.
-use Rattle.std.proofs.Common.{ℕ, suc, ◌≡◌, ◌≤◌, Bool, true, false, ◌||◌, refl, ap, arith, rules, ◌⊎◌, inl, inr}
+use Rattle.std.proofs.Common.{ℕ, suc, ◌≡◌, ◌<◌, ◌≤◌, Bool, true, false, ◌||◌, refl, ap, arith, rules, ◌⊎◌, inl, inr}
 use Rattle.std.specs.Prelude.{nat_eq}
 use Rattle.fo_terms.specs.Terms.{Term, Terms, variable, symbol, none, more, count, size, size_of_all, occurs, occurs_in_any}
 use Rattle.fo_terms.specs.Substitutions.{Substitution, apply, apply_to_all}
@@ -25,15 +25,15 @@ mutual
 pub nat_eq-refl : (v : ℕ) → nat_eq v v ≡ true
 nat_eq-refl v = search rules
 
-or_true : (a b : Bool) → (a || b) ≡ true → (a ≡ true) ⊎ (b ≡ true)
+pub or_true : (a b : Bool) → (a || b) ≡ true → (a ≡ true) ⊎ (b ≡ true)
 or_true true b h = inl refl
 or_true false b h = inr h
 
-or_left : (a b : Bool) → a ≡ true → (a || b) ≡ true
+pub or_left : (a b : Bool) → a ≡ true → (a || b) ≡ true
 or_left true b h = refl
 or_left false b h = absurd cc
 
-or_right : (a b : Bool) → b ≡ true → (a || b) ≡ true
+pub or_right : (a b : Bool) → b ≡ true → (a || b) ≡ true
 or_right true b h = refl
 or_right false b h = h
 
@@ -76,13 +76,10 @@ mutual
         | inr r ↦ (let k = size_of_all-occurs s v ts r in omega arith)
       ]
 
--- so a variable is never equal to a larger term in which it occurs
-pub occurs_refuses : (s : Substitution) (v f : ℕ) (ts : Terms) → occurs v (symbol f ts) ≡ true → s v ≡ apply s (symbol f ts) → ⊥
-occurs_refuses s v f ts h e =
-    let k = size_of_all-occurs s v ts h in
-    let same : size (s v) ≡ suc (size_of_all (apply_to_all s ts)) = ap size e in
-    omega arith
-
 pub count-apply_to_all : (s : Substitution) (ts : Terms) → count (apply_to_all s ts) ≡ count ts
 count-apply_to_all s none = refl
 count-apply_to_all s (more t ts) = ap suc (count-apply_to_all s ts)
+
+pub size-positive : (t : Term) → 0 < size t
+size-positive (variable v) = omega arith
+size-positive (symbol f ts) = omega arith

@@ -4,4 +4,8 @@ pub mod Prefix
 pub mod Reading
 pub mod Places
 pub mod Bindings
+pub mod Classes
+pub mod Depths
+pub mod Solving
 pub mod Rounds
+pub mod Arranging

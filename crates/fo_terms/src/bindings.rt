@@ -2,7 +2,7 @@
 //! in turn.
 
 ghost use Rattle.std.specs.Prelude.{◌≡◌, ◌+◌, ◌<◌, ◌≤◌, ◌++◌, ◌∷◌, [], length, slice_get, IfOk, OnOk, Some, suc, MatchOption};
-ghost use Rattle.fo_terms.specs.Substitutions.{apply};
+ghost use Rattle.fo_terms.specs.Substitutions.{Substitution, apply};
 ghost use Rattle.fo_terms.specs.Places.{term_at, ArePlaces};
 
 use crate::places::Places;
@@ -33,7 +33,7 @@ pub(crate) struct Bindings {
 }
 
 impl Bindings {
-    ghost use Rattle.fo_terms.specs.Bindings.{IsFree, Binds, IsIndexed, AreBindings, IsResolved, IsBoundAt, solution};
+    ghost use Rattle.fo_terms.specs.Bindings.{IsFree, Binds, IsIndexed, AreMade, Obeys, IsResolved, IsBoundAt};
 
     pub(crate) fn new(alloc: Global) -> Bindings
         ensures none { result.made.items ≡ [] }
@@ -65,7 +65,7 @@ impl Bindings {
         Ok(())
     }
 
-    fn binding(&self, number: usize) -> Binding
+    pub(crate) fn binding(&self, number: usize) -> Binding
         requires { number < length self.now.made.items }
         ensures { slice_get self.now.made.items number ≡ Some result }
     {
@@ -73,7 +73,7 @@ impl Bindings {
     }
 
     /// The number of the binding of the variable at a place, if a bound one stands there.
-    fn number_at(&self, places: &Places, at: usize) -> Option<usize>
+    pub(crate) fn number_at(&self, places: &Places, at: usize) -> Option<usize>
         requires indexed { IsIndexed self.now.made.items self.now.numbers }
         requires inside { at < length places.now.nodes.items }
         ensures { MatchOption result (IsResolved places.now.nodes.items self.now.made.items at) (λ k. IsBoundAt places.now.nodes.items self.now.made.items k at) }
@@ -87,11 +87,11 @@ impl Bindings {
     /// The place that a place leads to by the bindings: a symbol, or a free variable, stands there.
     pub(crate) fn resolve(&self, places: &Places, at: usize) -> usize
         requires indexed { IsIndexed self.now.made.items self.now.numbers }
-        requires bindings { AreBindings places.now.nodes.items self.now.made.items }
+        requires bindings { AreMade places.now.nodes.items self.now.made.items }
         requires inside { at < length places.now.nodes.items }
         ensures inside { result < length places.now.nodes.items }
         ensures resolved { IsResolved places.now.nodes.items self.now.made.items result }
-        ensures same { apply (solution places.now.nodes.items self.now.made.items) (term_at places.now.nodes.items result) ≡ apply (solution places.now.nodes.items self.now.made.items) (term_at places.now.nodes.items at) }
+        ensures same { (r : Substitution) → Obeys places.now.nodes.items self.now.made.items r → apply r (term_at places.now.nodes.items result) ≡ apply r (term_at places.now.nodes.items at) }
     {
         let mut here = at;
         let mut passed = 0;

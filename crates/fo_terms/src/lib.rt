@@ -1,7 +1,9 @@
 //! First-order terms, substitutions and unification.
 #![tactic(auto)]
 
+mod arrange;
 mod bindings;
+mod classes;
 mod places;
 mod solve;
 pub mod substitution;

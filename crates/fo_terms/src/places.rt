@@ -40,7 +40,7 @@ pub(crate) fn node_at(nodes: &[FoNode], at: usize) -> FoNode
     nodes[at]
 }
 
-fn place_at(places: &[usize], at: usize) -> usize
+pub(crate) fn place_at(places: &[usize], at: usize) -> usize
     requires { at < length places.now }
     ensures { slice_get places.now at ≡ Some result }
 {

@@ -1,66 +1,110 @@
-//! Equations are taken apart until one asks for a binding.
+//! Equations are taken apart until one asks for a binding, or for one class of two.
 
-ghost use Rattle.std.specs.Prelude.{◌≡◌, ◌+◌, ◌*◌, ◌<◌, ◌≤◌, length, slice_get, IfOk, OnOk, Some, All};
-ghost use Rattle.fo_terms.specs.Terms.{size};
-ghost use Rattle.fo_terms.specs.Substitutions.{apply};
-ghost use Rattle.fo_terms.specs.Places.{term_at, terms_at, ArePlaces};
-ghost use Rattle.fo_terms.specs.Bindings.{IsIndexed, AreBindings, IsResolved, IsStep, IsSettled, IsWithin, Solves, weight, solution};
+ghost use Rattle.std.specs.Prelude.{◌≡◌, ◌<◌, ◌≤◌, ◌^◌, length, slice_get, IfOk, Some, All};
+ghost use Rattle.fo_terms.specs.declared.term.FoNode.{FoNode};
+ghost use Rattle.fo_terms.specs.Places.{terms_at, ArePlaces};
+ghost use Rattle.fo_terms.specs.Bindings.{IsIndexed, AreMade, IsResolved};
+ghost use Rattle.fo_terms.specs.Classes.{IsForest};
+ghost use Rattle.fo_terms.specs.Solving.{IsMove, IsStep, IsSettled, IsWithin};
 
 use crate::bindings::{Binding, Bindings, Equation};
+use crate::classes::Classes;
 use crate::places::Places;
 use crate::term::FoNode;
 use crate::walk::is_variable;
 use std::alloc::AllocError;
 
-/// What an equation comes to: it was taken apart, has no solution, or asks for a binding.
+/// Equal symbols stand at two places: once their classes, which have these roots, are one, their
+/// arguments are to be equal.
+#[derive(Clone, Copy, Debug)]
+pub(crate) struct Opening {
+    pub(crate) left_root: usize,
+    pub(crate) right_root: usize,
+    pub(crate) arguments: Equation,
+}
+
+/// What an equation comes to: it was taken apart, has no solution, asks for a binding, or for one
+/// class of two.
 #[derive(Clone, Copy, Debug)]
 pub(crate) enum Step {
     Split,
     Clash,
     Bind(Binding),
+    Open(Opening),
+}
+
+/// Equal symbols stand at two places.
+fn open(
+    places: &Places,
+    bindings: &Bindings,
+    classes: &Classes,
+    left: usize,
+    right: usize,
+    symbol: u32,
+    arguments: u32,
+) -> Step
+    requires forest { IsForest classes.now.parents.items }
+    requires as_long { length classes.now.parents.items ≡ length places.now.nodes.items }
+    requires left { left < length places.now.nodes.items }
+    requires right { right < length places.now.nodes.items }
+    requires left_is { slice_get places.now.nodes.items left ≡ Some (FoNode.Sym symbol arguments) }
+    requires right_is { slice_get places.now.nodes.items right ≡ Some (FoNode.Sym symbol arguments) }
+    ensures { IsMove places.now.nodes.items bindings.now.made.items classes.now.parents.items left right result }
+{
+    let _length = places.nodes.len();
+    let left_root = classes.root(left);
+    let right_root = classes.root(right);
+    if left_root == right_root {
+        return Step::Split;
+    }
+    Step::Open(Opening {
+        left_root,
+        right_root,
+        arguments: Equation {
+            left: left + 1,
+            right: right + 1,
+            count: arguments,
+        },
+    })
 }
 
 /// The terms at two resolved places are to be equal.
 fn compare(
     places: &Places,
     bindings: &Bindings,
+    classes: &Classes,
     left: usize,
     right: usize,
-    work: &mut Vec<Equation>,
-) -> Result<Step, AllocError>
-    requires bindings { AreBindings places.now.nodes.items bindings.now.made.items }
+) -> Step
     requires places { ArePlaces places.now.nodes.items places.now.ends.items }
+    requires forest { IsForest classes.now.parents.items }
+    requires as_long { length classes.now.parents.items ≡ length places.now.nodes.items }
     requires left { left < length places.now.nodes.items }
     requires right { right < length places.now.nodes.items }
     requires left_resolved { IsResolved places.now.nodes.items bindings.now.made.items left }
     requires right_resolved { IsResolved places.now.nodes.items bindings.now.made.items right }
-    ensures { IfOk result (λ step. IsStep places.now.nodes.items bindings.now.made.items (λ r. apply r (term_at places.now.nodes.items left) ≡ apply r (term_at places.now.nodes.items right)) (2 * size (apply (solution places.now.nodes.items bindings.now.made.items) (term_at places.now.nodes.items left))) work.old.items work.new.items step) }
+    ensures { IsMove places.now.nodes.items bindings.now.made.items classes.now.parents.items left right result }
 {
     match places.node(left) {
         FoNode::Var(variable) => {
             if is_variable(places.node(right), variable) {
-                return Ok(Step::Split);
+                return Step::Split;
             }
-            Ok(Step::Bind(Binding {
+            Step::Bind(Binding {
                 variable,
                 place: right,
-            }))
+            })
         }
         FoNode::Sym(symbol, arguments) => match places.node(right) {
-            FoNode::Var(variable) => Ok(Step::Bind(Binding {
+            FoNode::Var(variable) => Step::Bind(Binding {
                 variable,
                 place: left,
-            })),
+            }),
             FoNode::Sym(other, others) => {
                 if symbol != other || arguments != others {
-                    return Ok(Step::Clash);
+                    return Step::Clash;
                 }
-                work.push(Equation {
-                    left: left + 1,
-                    right: right + 1,
-                    count: arguments,
-                })?;
-                Ok(Step::Split)
+                open(places, bindings, classes, left, right, symbol, arguments)
             }
         },
     }
@@ -70,14 +114,17 @@ fn compare(
 fn take_step(
     places: &Places,
     bindings: &Bindings,
+    classes: &Classes,
     equation: Equation,
     work: &mut Vec<Equation>,
 ) -> Result<Step, AllocError>
     requires indexed { IsIndexed bindings.now.made.items bindings.now.numbers }
-    requires bindings { AreBindings places.now.nodes.items bindings.now.made.items }
+    requires bindings { AreMade places.now.nodes.items bindings.now.made.items }
     requires places { ArePlaces places.now.nodes.items places.now.ends.items }
+    requires forest { IsForest classes.now.parents.items }
+    requires as_long { length classes.now.parents.items ≡ length places.now.nodes.items }
     requires within { IsWithin places.now.nodes.items equation }
-    ensures { IfOk result (λ step. IsStep places.now.nodes.items bindings.now.made.items (λ r. Solves places.now.nodes.items r equation) (weight places.now.nodes.items (solution places.now.nodes.items bindings.now.made.items) equation) work.old.items work.new.items step) }
+    ensures { IfOk result (λ step. IsStep places.now.nodes.items bindings.now.made.items classes.now.parents.items equation work.old.items work.new.items step) }
 {
     if equation.count == 0 {
         return Ok(Step::Split);
@@ -89,24 +136,27 @@ fn take_step(
     })?;
     let left = bindings.resolve(places, equation.left);
     let right = bindings.resolve(places, equation.right);
-    let step = compare(places, bindings, left, right, work)?;
+    let step = compare(places, bindings, classes, left, right);
     Ok(step)
 }
 
-/// Takes equations apart until one asks for a binding.
+/// Takes equations apart until one asks for a binding, or for one class of two.
 pub(crate) fn settle(
     places: &Places,
     bindings: &Bindings,
+    classes: &Classes,
     work: &mut Vec<Equation>,
 ) -> Result<Step, AllocError>
     requires indexed { IsIndexed bindings.now.made.items bindings.now.numbers }
-    requires bindings { AreBindings places.now.nodes.items bindings.now.made.items }
+    requires bindings { AreMade places.now.nodes.items bindings.now.made.items }
     requires places { ArePlaces places.now.nodes.items places.now.ends.items }
+    requires forest { IsForest classes.now.parents.items }
+    requires as_long { length classes.now.parents.items ≡ length places.now.nodes.items }
     requires within { All (IsWithin places.now.nodes.items) work.old.items }
-    ensures { IfOk result (λ step. IsSettled places.now.nodes.items bindings.now.made.items work.old.items work.new.items step) }
+    ensures { IfOk result (λ step. IsSettled places.now.nodes.items bindings.now.made.items classes.now.parents.items work.old.items work.new.items step) }
 {
     while let Some(equation) = work.pop() {
-        let step = take_step(places, bindings, equation, work)?;
+        let step = take_step(places, bindings, classes, equation, work)?;
         let Step::Split = step else {
             return Ok(step);
         };

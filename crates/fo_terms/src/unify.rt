@@ -4,63 +4,74 @@ ghost use Rattle.std.specs.Prelude.{◌≡◌, ◌+◌, ◌*◌, ◌<◌, ◌≤
 ghost use Rattle.fo_terms.specs.Terms.{Term};
 ghost use Rattle.fo_terms.specs.Substitutions.{Substitution, apply, image, IsUnifier, IsMostGeneralUnifier, IsIdempotent, IsOnce};
 ghost use Rattle.fo_terms.specs.Places.{term_at, terms_at, ArePlaces};
-ghost use Rattle.fo_terms.specs.Bindings.{IsIndexed, AreBindings, IsState, IsSolution, IsWithin, pair_of};
+ghost use Rattle.fo_terms.specs.Bindings.{IsIndexed, AreMade, AreBindings, IsLoose, IsSolution, pair_of};
+ghost use Rattle.fo_terms.specs.Classes.{IsForest};
+ghost use Rattle.fo_terms.specs.Solving.{IsState, IsWithin};
 ghost use Rattle.fo_terms.specs.Rounds.{IsRound};
 
+use crate::arrange::arrange;
 use crate::bindings::{Bindings, Equation};
+use crate::classes::Classes;
 use crate::places::Places;
 use crate::solve::{Step, settle};
 use crate::substitution::{FoPairs, FoSubst};
 use crate::term::FoTerm;
-use crate::walk::{applied_at, occurs_at};
+use crate::walk::applied_at;
 use std::alloc::{AllocError, Global};
 
-/// What one round comes to: all equations hold, or none can, or one more variable is bound.
+/// What one round comes to: all equations hold, or none can, or one more variable is bound, or two
+/// classes are one.
 #[derive(Clone, Copy, Debug)]
 enum Round {
     Solved,
     Refused,
-    Bound,
+    Further,
 }
 
-/// Takes equations apart, and makes the binding that one asks for.
+/// Takes equations apart, and makes the binding or the class that one asks for.
 fn next_round(
-    alloc: Global,
     places: &Places,
     bindings: &mut Bindings,
+    classes: &mut Classes,
     work: &mut Vec<Equation>,
     right: usize,
 ) -> Result<Round, AllocError>
     requires indexed { IsIndexed bindings.old.made.items bindings.old.numbers }
-    requires bindings { AreBindings places.now.nodes.items bindings.old.made.items }
+    requires bindings { AreMade places.now.nodes.items bindings.old.made.items }
     requires places { ArePlaces places.now.nodes.items places.now.ends.items }
+    requires forest { IsForest classes.old.parents.items }
+    requires as_long { length classes.old.parents.items ≡ length places.now.nodes.items }
     requires within { All (IsWithin places.now.nodes.items) work.old.items }
-    requires state { IsState places.now.nodes.items bindings.old.made.items (term_at places.now.nodes.items 0) (term_at places.now.nodes.items right) work.old.items }
+    requires state { IsState places.now.nodes.items bindings.old.made.items classes.old.parents.items (term_at places.now.nodes.items 0) (term_at places.now.nodes.items right) work.old.items }
     ensures indexed { OnOk result (IsIndexed bindings.new.made.items bindings.new.numbers) }
-    ensures round { IfOk result (λ round. IsRound places.now.nodes.items (term_at places.now.nodes.items 0) (term_at places.now.nodes.items right) bindings.old.made.items bindings.new.made.items work.new.items round) }
+    ensures round { IfOk result (λ round. IsRound places.now.nodes.items (term_at places.now.nodes.items 0) (term_at places.now.nodes.items right) bindings.old.made.items bindings.new.made.items classes.old.parents.items classes.new.parents.items work.new.items round) }
 {
-    match settle(places, bindings, work)? {
+    match settle(places, bindings, classes, work)? {
         Step::Split => Ok(Round::Solved),
         Step::Clash => Ok(Round::Refused),
         Step::Bind(binding) => {
-            if occurs_at(alloc, places, bindings, binding.variable, binding.place)? {
-                return Ok(Round::Refused);
-            }
             bindings.bind(binding.variable, binding.place)?;
-            Ok(Round::Bound)
+            Ok(Round::Further)
+        }
+        Step::Open(opening) => {
+            work.push(opening.arguments)?;
+            classes.join(opening.left_root, opening.right_root);
+            Ok(Round::Further)
         }
     }
 }
 
-/// The bindings that solve the terms at the first place and at another, if there are such.
+/// The bindings that the terms at the first place and at another ask for, if they have no different
+/// symbols.
 fn solve(alloc: Global, places: &Places, right: usize) -> Result<Option<Bindings>, AllocError>
     requires places { ArePlaces places.now.nodes.items places.now.ends.items }
     requires left { 0 < length places.now.nodes.items }
     requires right { right < length places.now.nodes.items }
     ensures indexed { IfOk result (λ o. IfSome o (λ b. IsIndexed b.made.items b.numbers)) }
-    ensures solved { IfOk result (λ o. MatchOption o ((r : Substitution) → apply r (term_at places.now.nodes.items 0) ≡ apply r (term_at places.now.nodes.items right) → ⊥) (λ b. IsSolution places.now.nodes.items b.made.items (term_at places.now.nodes.items 0) (term_at places.now.nodes.items right))) }
+    ensures solved { IfOk result (λ o. MatchOption o ((r : Substitution) → apply r (term_at places.now.nodes.items 0) ≡ apply r (term_at places.now.nodes.items right) → ⊥) (λ b. IsLoose places.now.nodes.items b.made.items (term_at places.now.nodes.items 0) (term_at places.now.nodes.items right))) }
 {
     let mut bindings = Bindings::new(alloc);
+    let mut classes = Classes::new(alloc, places.nodes.len())?;
     let mut work = Vec::new(alloc);
     work.push(Equation {
         left: 0,
@@ -68,10 +79,27 @@ fn solve(alloc: Global, places: &Places, right: usize) -> Result<Option<Bindings
         count: 1,
     })?;
     loop {
-        match next_round(alloc, places, &mut bindings, &mut work, right)? {
+        match next_round(places, &mut bindings, &mut classes, &mut work, right)? {
             Round::Solved => return Ok(Some(bindings)),
             Round::Refused => return Ok(None),
-            Round::Bound => {}
+            Round::Further => {}
+        }
+    }
+}
+
+/// The bindings that solve the terms at the first place and at another, if there are such.
+fn solution(alloc: Global, places: &Places, right: usize) -> Result<Option<Bindings>, AllocError>
+    requires places { ArePlaces places.now.nodes.items places.now.ends.items }
+    requires left { 0 < length places.now.nodes.items }
+    requires right { right < length places.now.nodes.items }
+    ensures indexed { IfOk result (λ o. IfSome o (λ b. IsIndexed b.made.items b.numbers)) }
+    ensures solved { IfOk result (λ o. MatchOption o ((r : Substitution) → apply r (term_at places.now.nodes.items 0) ≡ apply r (term_at places.now.nodes.items right) → ⊥) (λ b. IsSolution places.now.nodes.items b.made.items (term_at places.now.nodes.items 0) (term_at places.now.nodes.items right))) }
+{
+    match solve(alloc, places, right)? {
+        None => Ok(None),
+        Some(bindings) => {
+            let found = arrange(alloc, places, &bindings)?;
+            Ok(found)
         }
     }
 }
@@ -101,7 +129,7 @@ pub fn unify(alloc: Global, first: &FoTerm, second: &FoTerm) -> Result<Option<Fo
 {
     let places = Places::of(alloc, first, second)?;
     let right = first.nodes().len();
-    match solve(alloc, &places, right)? {
+    match solution(alloc, &places, right)? {
         None => Ok(None),
         Some(bindings) => {
             let pairs = pairs_of(alloc, &places, &bindings)?;

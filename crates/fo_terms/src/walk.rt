@@ -2,7 +2,7 @@
 
 ghost use Rattle.std.specs.Prelude.{◌≡◌, ◌+◌, ◌<◌, ◌≤◌, length, slice_get, IfOk, OnOk, IfSome, IfNone, Some, All, List, IsTrue, ◌↔◌};
 ghost use Rattle.fo_terms.specs.declared.term.FoNode.{FoNode};
-ghost use Rattle.fo_terms.specs.Terms.{count, none, first_terms, occurs};
+ghost use Rattle.fo_terms.specs.Terms.{count, none, first_terms};
 ghost use Rattle.fo_terms.specs.Substitutions.{Substitution, apply, apply_to_all};
 ghost use Rattle.fo_terms.specs.Prefix.{with_node};
 ghost use Rattle.fo_terms.specs.Reading.{joined};
@@ -90,30 +90,6 @@ pub(crate) fn is_variable(node: FoNode, variable: u32) -> bool
         FoNode::Var(other) => other == variable,
         FoNode::Sym(_, _) => false,
     }
-}
-
-/// Whether a variable occurs in what the bindings make of the term at a place.
-pub(crate) fn occurs_at(
-    alloc: Global,
-    places: &Places,
-    bindings: &Bindings,
-    variable: u32,
-    place: usize,
-) -> Result<bool, AllocError>
-    requires indexed { IsIndexed bindings.now.made.items bindings.now.numbers }
-    requires bindings { AreBindings places.now.nodes.items bindings.now.made.items }
-    requires places { ArePlaces places.now.nodes.items places.now.ends.items }
-    requires inside { place < length places.now.nodes.items }
-    ensures { IfOk result (λ found. occurs variable (apply (solution places.now.nodes.items bindings.now.made.items) (term_at places.now.nodes.items place)) ≡ found) }
-{
-    let mut spans = Vec::new(alloc);
-    push_span(&mut spans, place, 1)?;
-    while let Some(node) = next_node(places, bindings, &mut spans)? {
-        if is_variable(node, variable) {
-            return Ok(true);
-        }
-    }
-    Ok(false)
 }
 
 /// What the bindings make of the term at a place.

@@ -1,5 +1,5 @@
 -- Sorts that have a term, found one after the other.
-use Rattle.std.proofs.Common.{ℕ, ◌≡◌, ◌<◌, ◌≤◌, suc, zero, Bool, true, false, List, [], ◌∷◌, length, Some, refl, sym, ap, ◌∙◌, subst, arith, inl, inr}
+use Rattle.std.proofs.Common.{ℕ, ◌≡◌, ◌+◌, ◌<◌, ◌≤◌, ◌⊎◌, suc, zero, Bool, true, false, List, [], ◌∷◌, length, Some, refl, sym, ap, ◌∙◌, subst, arith, inl, inr}
 use Rattle.std.specs.Prelude.{slice_get, ◌↔◌, if◌then◌else◌}
 use Rattle.std.specs.List.{AllByRecursion}
 use Rattle.std.specs.BTreeMap.{BTreeMap}
@@ -8,7 +8,7 @@ use Rattle.fo_terms.specs.Terms.{Term, Terms, variable, symbol, none, more}
 use Rattle.fo_text.specs.declared.problem.FoSym.{FoSym}
 use Rattle.fo_text.specs.Problems.{HasSort, HaveSorts}
 use Rattle.fo_text.specs.Nodes.{Inhabited, AreMarks}
-use Rattle.fo_text.specs.Known.{knows, Knows, KnowsAll, IsAdded, AreSound, HasVars, HasResults, IsNew, unknown_results}
+use Rattle.fo_text.specs.Known.{knows, Knows, KnowsAll, IsAdded, IsTry, IsGrown, AreSound, HasVars, HasResults, IsNew, unknown_results}
 
 -- the map has each sort that has a term
 mutual
@@ -37,14 +37,14 @@ all_complete vars syms known v r (x ∷ ss) h = (complete vars syms known v r h.
 pub sound_start : (vars : List ℕ) (syms : List FoSym) (known : BTreeMap ℕ Bool) → ((s : ℕ) → Knows known s → (v : ℕ) × (slice_get vars v ≡ Some s)) → AreSound vars syms known
 sound_start vars syms known h s k = let v = h s k in (variable v.0, v.1)
 
-pub sound_more : (vars : List ℕ) (syms : List FoSym) (known new : BTreeMap ℕ Bool) (s : ℕ) → AreSound vars syms known → IsNew known syms s → IsAdded known new s → AreSound vars syms new
+sound_more : (vars : List ℕ) (syms : List FoSym) (known new : BTreeMap ℕ Bool) (s : ℕ) → AreSound vars syms known → IsNew known syms s → IsAdded known new s → AreSound vars syms new
 sound_more vars syms known new s h n a t k = elim (a.only t k) [
   | inl e ↦ (let ts = terms_for vars syms n.symbol.args (all_sound vars syms known h n.symbol.args n.args) in (symbol n.at ts.0, (n.symbol, n.stands, n.result_is ∙ sym e, ts.1)))
   | inr o ↦ h t o
 ]
 
-pub vars_kept : (known new : BTreeMap ℕ Bool) (vars : List ℕ) (n s : ℕ) → HasVars known vars n → IsAdded known new s → HasVars new vars n
-vars_kept known new vars n s h a v t l e = a.kept t (h v t l e)
+pub vars_kept : (syms : List FoSym) (known new : BTreeMap ℕ Bool) (vars : List ℕ) (n : ℕ) → HasVars known vars n → IsGrown syms known new → HasVars new vars n
+vars_kept syms known new vars n h a v t l e = a.kept t (h v t l e)
 
 -- fewer symbols give a sort that is not known
 count_of : Bool → ℕ
@@ -83,8 +83,39 @@ fewer_at known new s a u (x ∷ ys) (suc at) y e r =
     let k = fewer_at known new s a u ys at y e r in
     omega arith
 
-pub fewer : (known new : BTreeMap ℕ Bool) (syms : List FoSym) (s : ℕ) → IsNew known syms s → IsAdded known new s → unknown_results new syms < unknown_results known syms
+fewer : (known new : BTreeMap ℕ Bool) (syms : List FoSym) (s : ℕ) → IsNew known syms s → IsAdded known new s → unknown_results new syms < unknown_results known syms
 fewer known new syms s n a = fewer_at known new s a n.unknown syms n.at n.symbol n.stands n.result_is
+
+pub IsGrown-none : (syms : List FoSym) (known : BTreeMap ℕ Bool) → IsGrown syms known known
+IsGrown-none syms known = record { kept = λ s h. h; sound = λ vars h. h; no_more = omega arith }
+
+pub IsGrown-try : (syms : List FoSym) (first known new : BTreeMap ℕ Bool) (at : ℕ) (y : FoSym) (changed : Bool) → slice_get syms at ≡ Some y → IsGrown syms first known → IsTry known new y changed → IsGrown syms first new
+IsGrown-try syms first known new at y true e g t =
+    let n : IsNew known syms y.result = record { at = at; symbol = y; stands = e; result_is = refl; args = t.1; unknown = t.2 } in
+    let few = fewer known new syms y.result n t.0 in
+    let before = g.no_more in
+    record {
+      kept = λ s h. t.0.kept s (g.kept s h);
+      sound = λ vars h. sound_more vars syms known new y.result (g.sound vars h) n t.0;
+      no_more = omega arith;
+    }
+IsGrown-try syms first known new at y false e g t = rw t.0 g
+
+pub fewer-try : (syms : List FoSym) (first known new : BTreeMap ℕ Bool) (at : ℕ) (y : FoSym) → slice_get syms at ≡ Some y → IsGrown syms first known → IsTry known new y true → unknown_results new syms < unknown_results first syms
+fewer-try syms first known new at y e g t =
+    let n : IsNew known syms y.result = record { at = at; symbol = y; stands = e; result_is = refl; args = t.1; unknown = t.2 } in
+    let few = fewer known new syms y.result n t.0 in
+    let before = g.no_more in
+    omega arith
+
+last_or_before : (f n : ℕ) → f < n + 1 → (f < n) ⊎ (f ≡ n)
+last_or_before f n h = grind arith
+
+pub results-try : (syms : List FoSym) (known new : BTreeMap ℕ Bool) (at : ℕ) (y : FoSym) → slice_get syms at ≡ Some y → HasResults known syms at → IsTry known new y false → HasResults new syms (at + 1)
+results-try syms known new at y e h t = rw t.0 (λ f x l s a. elim (last_or_before f at l) [
+  | inl b ↦ h f x b s a
+  | inr q ↦ (let here : slice_get syms at ≡ Some x = rw q at s in let same : x ≡ y = some_same x y (sym here ∙ e) in rw same (t.1 (rw same at a)))
+])
 
 pub marks_right : (vars : List ℕ) (syms : List FoSym) (known : BTreeMap ℕ Bool) (usable : List Bool) → AreSound vars syms known → HasVars known vars (length vars) → HasResults known syms (length syms)
     → ((f : ℕ) (y : FoSym) → f < length syms → slice_get syms f ≡ Some y → (slice_get usable f ≡ Some true) ↔ KnowsAll known y.args) → AreMarks vars syms usable

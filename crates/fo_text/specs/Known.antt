@@ -1,5 +1,5 @@
 -- Which sorts have a term.
-use Rattle.std.specs.Prelude.{ℕ, ◌≡◌, ◌+◌, ◌<◌, ◌⊎◌, Bool, true, List, [], ◌∷◌, Some, slice_get, is_some, if◌then◌else◌}
+use Rattle.std.specs.Prelude.{ℕ, ◌≡◌, ◌+◌, ◌<◌, ◌≤◌, ◌⊎◌, Bool, true, false, List, [], ◌∷◌, Some, slice_get, is_some, if◌then◌else◌}
 use Rattle.std.specs.List.{AllByRecursion}
 use Rattle.std.specs.Ordering.{nat_cmp}
 use Rattle.std.specs.BTreeMap.{BTreeMap, get}
@@ -43,7 +43,18 @@ pub record IsNew (known : BTreeMap ℕ Bool) (syms : List FoSym) (s : ℕ) : Typ
   pub args : KnowsAll known symbol.args
   pub unknown : Knows known s → ⊥
 
+-- a try with a symbol added its sort, or found nothing to add
+abbrev pub IsTry : BTreeMap ℕ Bool → BTreeMap ℕ Bool → FoSym → Bool → Type 0
+IsTry old new y true = IsAdded old new y.result × KnowsAll old y.args × (Knows old y.result → ⊥)
+IsTry old new y false = (new ≡ old) × (KnowsAll old y.args → Knows old y.result)
+
 -- how many symbols give a sort that is not in the map
 abbrev pub unknown_results : BTreeMap ℕ Bool → List FoSym → ℕ
 unknown_results known [] = 0
 unknown_results known (y ∷ ys) = (if knows known y.result then 0 else 1) + unknown_results known ys
+
+-- sorts that the symbols give were added
+pub record IsGrown (syms : List FoSym) (old new : BTreeMap ℕ Bool) : Type 0 where
+  pub kept : (s : ℕ) → Knows old s → Knows new s
+  pub sound : (vars : List ℕ) → AreSound vars syms old → AreSound vars syms new
+  pub no_more : unknown_results new syms ≤ unknown_results old syms

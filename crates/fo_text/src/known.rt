@@ -1,8 +1,8 @@
 //! Which sorts have a term over the variables of a clause.
 
-ghost use Rattle.std.specs.Prelude.{◌≡◌, ◌≤◌, ◌<◌, ◌↔◌, ◌∷◌, length, IfOk, OnOk, IsTrue, MatchOption, Some, true, slice_get, ℕ};
+ghost use Rattle.std.specs.Prelude.{◌≡◌, ◌≤◌, ◌<◌, ◌↔◌, ◌∷◌, length, IfOk, OnOk, IsTrue, Some, true, false, slice_get, ℕ};
 ghost use Rattle.fo_text.specs.Nodes.{AreMarks};
-ghost use Rattle.fo_text.specs.Known.{Knows, KnowsAll, IsAdded, AreSound, HasVars, HasResults, IsNew};
+ghost use Rattle.fo_text.specs.Known.{Knows, KnowsAll, IsAdded, IsTry, IsGrown, AreSound, HasVars, HasResults, unknown_results};
 
 use crate::problem::FoSym;
 use std::alloc::{AllocError, Global};
@@ -49,16 +49,46 @@ fn of_variables(alloc: Global, vars: &[u32]) -> Result<BTreeMap<u32, bool>, Allo
     Ok(known)
 }
 
-/// A sort that some symbol gives of known ones, and that is not known.
-fn next_sort(known: &BTreeMap<u32, bool>, syms: &[FoSym]) -> Option<u32>
-    ensures { MatchOption result (HasResults known.now syms.now (length syms.now)) (IsNew known.now syms.now) }
+/// Adds the sort of a symbol, if it is not known and those of the arguments are. Whether it did.
+fn try_add(known: &mut BTreeMap<u32, bool>, sym: &FoSym) -> Result<bool, AllocError>
+    ensures { IfOk result (IsTry known.old known.new sym.now) }
 {
+    if is_known(known, sym.result) {
+        return Ok(false);
+    }
+    if all_known(known, sym.args.as_slice()) {
+        add(known, sym.result)?;
+        Ok(true)
+    } else {
+        Ok(false)
+    }
+}
+
+/// Tries each symbol from the first on. Whether a sort was added.
+fn sweep(known: &mut BTreeMap<u32, bool>, syms: &[FoSym]) -> Result<bool, AllocError>
+    ensures grown { OnOk result (IsGrown syms.now known.old known.new) }
+    ensures fewer { IfOk result (λ changed. changed ≡ true → unknown_results known.new syms.now < unknown_results known.old syms.now) }
+    ensures all { IfOk result (λ changed. changed ≡ false → HasResults known.new syms.now (length syms.now)) }
+{
+    let mut changed = false;
     for sym in syms {
-        if !is_known(known, sym.result) && all_known(known, sym.args.as_slice()) {
-            return Some(sym.result);
+        if try_add(known, sym)? {
+            changed = true;
         }
     }
-    None
+    Ok(changed)
+}
+
+/// Tries each symbol from the last on.
+fn sweep_back(known: &mut BTreeMap<u32, bool>, syms: &[FoSym]) -> Result<(), AllocError>
+    ensures grown { OnOk result (IsGrown syms.now known.old known.new) }
+{
+    let mut at = syms.len();
+    while at > 0 {
+        at -= 1;
+        let _ = try_add(known, &syms[at])?;
+    }
+    Ok(())
 }
 
 /// All sorts that have a term.
@@ -68,8 +98,8 @@ fn inhabited(alloc: Global, vars: &[u32], syms: &[FoSym]) -> Result<BTreeMap<u32
     ensures results { IfOk result (λ known. HasResults known syms.now (length syms.now)) }
 {
     let mut known = of_variables(alloc, vars)?;
-    while let Some(sort) = next_sort(&known, syms) {
-        add(&mut known, sort)?;
+    while sweep(&mut known, syms)? {
+        sweep_back(&mut known, syms)?;
     }
     Ok(known)
 }

@@ -76,8 +76,9 @@ fn problem(alloc: Global, input: &[u8]) -> Result<(FoProblem, &[u8]), Stop>
 
 /// Reads a problem text. Where the input is one, its problem is read; no other problem has that text.
 ///
-/// The time is linear in the length of a text that is read. One that is refused in a clause takes
-/// time that grows with the count of the sorts times the length of the symbols.
+/// The time is linear in the length of a text that is read. Where one is refused in a clause, the
+/// symbols are looked through forth and back until no sort with a term is found anew: twice or three
+/// times where each symbol stands behind those that give its arguments' sorts, or each before them.
 ///
 /// # Errors
 ///

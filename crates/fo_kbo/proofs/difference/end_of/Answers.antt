@@ -1,49 +1,9 @@
-use Rattle.std.proofs.Common.{suc, ◌+◌, ◌-◌, ◌≡◌, ◌<◌, ◌≤◌, length, arith, rules, add-one}
-use Rattle.fo_terms.specs.Places.{arguments_of}
-use Rattle.fo_kbo.proofs.Scanning.{IsScanned, IsScanned-start, IsScanned-inside, IsScanned-node, IsBehind-scanned, count-terms_at}
+use Rattle.std.proofs.Common.{arith}
+use Rattle.fo_terms.proofs.AtPlaces.{some_at}
 use Rattle.fo_kbo.proofs.difference.end_of.Goals as goal
 
-pub loop-missing-init : goal.loop-missing-init
-loop-missing-init c = IsScanned-start c.args.nodes.now c.args.at c.requires.inside
-
-pub node_at-requires : goal.node_at-requires
-node_at-requires c =
-    let one : c.loop-missing.missing ≡ suc (c.loop-missing.missing - 1) = omega arith in
-    let now : IsScanned c.args.nodes.now c.args.at c.loop-missing.here (suc (c.loop-missing.missing - 1)) = rw one at c.loop-missing.invariant in
-    IsScanned-inside c.args.nodes.now c.args.at c.loop-missing.here (c.loop-missing.missing - 1) now
-
-module _ (c : goal.After-arguments) where
-  one : c.loop-missing.missing ≡ suc (c.loop-missing.missing - 1)
-  one = omega arith
-
-  now : IsScanned c.args.nodes.now c.args.at c.loop-missing.here (suc (c.loop-missing.missing - 1))
-  now = rw one at c.loop-missing.invariant
-
-  next : IsScanned c.args.nodes.now c.args.at (suc c.loop-missing.here) (c.loop-missing.missing - 1 + arguments_of c.node_at.result)
-  next = IsScanned-node c.args.nodes.now c.args.at c.loop-missing.here (c.loop-missing.missing - 1) c.node_at.result c.requires.full c.node_at.ensures now
-
-  inside : c.loop-missing.here < length c.args.nodes.now
-  inside = IsScanned-inside c.args.nodes.now c.args.at c.loop-missing.here (c.loop-missing.missing - 1) now
-
-  pub bounded : c.loop-missing.missing - 1 + c.arguments.result ≤ length c.args.nodes.now
-  bounded =
-      let n = next in
-      let r = c.arguments.ensures.result in
-      let e = n.enough in
-      let i = n.inside in
-      let l = count-terms_at c.args.nodes.now (suc c.loop-missing.here) n.inside in
-      omega arith
-
-pub overflow_add-missing : goal.overflow_add-missing
-overflow_add-missing c = let b = bounded c in search rules
-
-pub loop-missing-smaller : goal.loop-missing-smaller
-loop-missing-smaller c = let i = inside c in omega arith
-
-pub loop-missing-preserved : goal.loop-missing-preserved
-loop-missing-preserved c = rw (add-one, c.arguments.ensures.result) (next c)
+pub pass-requires-clause-enough : goal.pass-requires-clause-enough
+pass-requires-clause-enough c = some_at c.args.nodes.now c.args.at c.requires.inside
 
 pub returns : goal.returns
-returns c =
-    let none : c.loop-missing.missing ≡ 0 = omega arith in
-    IsBehind-scanned c.args.nodes.now c.args.at c.loop-missing.here (rw none at c.loop-missing.invariant)
+returns c = record { later = c.pass.ensures.later (omega arith); inside = c.pass.ensures.inside; reads = c.pass.ensures.reads }

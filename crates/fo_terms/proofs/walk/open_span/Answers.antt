@@ -14,6 +14,9 @@ resolve-here-requires-clause-inside c = below_length c.args.places.now.nodes.ite
 pub behind-requires-clause-inside : goal.behind-requires-clause-inside
 behind-requires-clause-inside c = below_length c.args.places.now.nodes.items c.args.span.at (let s = c.requires.span.some in let w = c.requires.span.within in omega arith)
 
+pub resolve-here-requires-clause-bindings : goal.resolve-here-requires-clause-bindings
+resolve-here-requires-clause-bindings c = record { inside = c.requires.bindings.inside; once = c.requires.bindings.once; ordered = c.requires.bindings.ordered }
+
 enough : (n k : ℕ) → 0 < n → n ≤ k → suc (n - 1) ≤ k
 enough n k s w = omega arith
 
@@ -29,7 +32,7 @@ returns-in-Var-clause-node c =
     let l = c.requires.span.some in
     let one : c.args.span.count ≡ suc (c.args.span.count - 1) = omega arith in
     rw one (open-variable ns s c.args.span.at c.resolve-here.result c.behind.result (c.args.span.count - 1) (pending ns s c.args.spans.now.items) (pending ns s c.push_span.new.spans.items)
-    (enough c.args.span.count (count (terms_at ns c.args.span.at)) c.requires.span.some c.requires.span.within) c.behind.ensures.reads c.resolve-here.ensures.same (c.in_ok-push_span.ensures.pending ns s)
+    (enough c.args.span.count (count (terms_at ns c.args.span.at)) c.requires.span.some c.requires.span.within) c.behind.ensures.reads (c.resolve-here.ensures.same s c.requires.bindings.bound) (c.in_ok-push_span.ensures.pending ns s)
     c.in-Var.variable c.in-Var.ensures (c.requires.bindings.free c.in-Var.variable (c.resolve-here.ensures.resolved c.in-Var.variable c.in-Var.ensures)))
 
 pub returns-in_ok-push_span-in-Sym-clause-spans : goal.returns-in_ok-push_span-in-Sym-clause-spans
@@ -46,7 +49,7 @@ returns-in_ok-push_span-in-Sym-clause-node c =
     let l = c.requires.span.some in
     let one : c.args.span.count ≡ suc (c.args.span.count - 1) = omega arith in
     rw one ((open-symbol ns s c.args.span.at c.resolve-here.result c.behind.result (c.args.span.count - 1) (pending ns s c.args.spans.now.items) (pending ns s c.push_span.new.spans.items)
-    (enough c.args.span.count (count (terms_at ns c.args.span.at)) c.requires.span.some c.requires.span.within) c.behind.ensures.reads c.resolve-here.ensures.same (c.in_ok-push_span.ensures.pending ns s)
+    (enough c.args.span.count (count (terms_at ns c.args.span.at)) c.requires.span.some c.requires.span.within) c.behind.ensures.reads (c.resolve-here.ensures.same s c.requires.bindings.bound) (c.in_ok-push_span.ensures.pending ns s)
     c.in-Sym.symbol c.in-Sym.arguments (pending ns s c.push_span-in-Sym.new.spans.items) c.in-Sym.ensures (c.requires.places.full c.resolve-here.result (Sym c.in-Sym.symbol c.in-Sym.arguments) c.in-Sym.ensures)
     (rw add-one at (c.in_ok-push_span-in-Sym.ensures.pending ns s))).0)
 
@@ -55,6 +58,6 @@ returns-in_ok-push_span-in-Sym-clause-arguments c =
     let ns : List FoNode = c.args.places.now.nodes.items in
     let s = solution ns c.args.bindings.now.made.items in
     (open-symbol ns s c.args.span.at c.resolve-here.result c.behind.result (c.args.span.count - 1) (pending ns s c.args.spans.now.items) (pending ns s c.push_span.new.spans.items)
-    (enough c.args.span.count (count (terms_at ns c.args.span.at)) c.requires.span.some c.requires.span.within) c.behind.ensures.reads c.resolve-here.ensures.same (c.in_ok-push_span.ensures.pending ns s)
+    (enough c.args.span.count (count (terms_at ns c.args.span.at)) c.requires.span.some c.requires.span.within) c.behind.ensures.reads (c.resolve-here.ensures.same s c.requires.bindings.bound) (c.in_ok-push_span.ensures.pending ns s)
     c.in-Sym.symbol c.in-Sym.arguments (pending ns s c.push_span-in-Sym.new.spans.items) c.in-Sym.ensures (c.requires.places.full c.resolve-here.result (Sym c.in-Sym.symbol c.in-Sym.arguments) c.in-Sym.ensures)
     (rw add-one at (c.in_ok-push_span-in-Sym.ensures.pending ns s))).1

@@ -17,5 +17,5 @@ loop-number-preserved c =
     let later : LeadsPast c.args.places.now.nodes.items c.args.self.now.made.items (suc c.in-Some.number) c.binding-here.result.place = c.requires.bindings.ordered c.in-Some.number c.binding-here.result c.binding-here.ensures in (
       c.requires.bindings.inside c.in-Some.number c.binding-here.result c.binding-here.ensures,
       rw add-one later,
-      same_along c.args.places.now.nodes.items c.args.self.now.made.items c.requires.bindings c.in-Some.number c.loop-number.here c.binding-here.result c.binding-here.ensures at ∙ c.loop-number.invariant.2,
+      (λ r o. same_along c.args.places.now.nodes.items c.args.self.now.made.items r o c.in-Some.number c.loop-number.here c.binding-here.result c.binding-here.ensures at ∙ c.loop-number.invariant.2 r o),
     )

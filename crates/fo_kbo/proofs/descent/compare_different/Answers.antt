@@ -1,7 +1,7 @@
 use Rattle.std.proofs.Common.{◌∙◌}
 use Rattle.fo_terms.specs.Prefix.{term_of}
 use Rattle.fo_kbo.proofs.Comparing.{level-start, level-narrowed, level-first, level-second, level-next, IsPrefix-is, term_of-is}
-use Rattle.fo_kbo.proofs.order.compare_different.Goals as goal
+use Rattle.fo_kbo.proofs.descent.compare_different.Goals as goal
 
 pub loop-found-init : goal.loop-found-init
 loop-found-init c = (c.requires.first, c.requires.second, level-start (term_of c.args.first.now) (term_of c.args.second.now) c.requires.different)
