@@ -1,0 +1,11 @@
+pub mod Kept
+pub mod Renumbered
+pub mod PrunedLaw
+pub mod Collecting
+pub mod Occurring
+pub mod Marked
+pub mod Records
+pub mod Keeping
+pub mod Ordered
+pub mod Checked
+pub mod Falsity

@@ -1,0 +1,7 @@
+pub mod Resting
+pub mod Pruning
+pub mod Laws
+pub mod Symbols
+pub mod Marking
+pub mod Checking
+pub mod Verdicts
