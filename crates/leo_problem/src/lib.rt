@@ -20,3 +20,6 @@ pub use loaded::{Hyp, Problem};
 pub use loading::load;
 pub use refusal::{LoadRefusal, What};
 pub use roles::Role;
+
+#[cfg(test)]
+mod tests;
