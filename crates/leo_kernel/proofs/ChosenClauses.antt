@@ -36,7 +36,7 @@ pub claims-are : (k : LogicKind) (l : Literal) (claim : Claim) → Claims k l cl
 claims-are k l claim (all_f c p) = refl
 claims-are k l claim (some_t c p) = refl
 
-some-claim : (x y : Claim) → Some x ≡ Some y → x ≡ y
+pub some-claim : (x y : Claim) → Some x ≡ Some y → x ≡ y
 some-claim x y e = cc
 
 row-all : (t : Tree) (f : Formula) (v : Bool) (claim : Claim) → shows t f → all_claim f v ≡ Some claim → Claims kind.AllF (valued t v) claim

@@ -100,7 +100,7 @@ last-of variables (x ∷ xs) s w h e =
       | inr k ↦ inr (record { before = x ∷ k.before; last = k.last; variables_of = (h.0, k.variables_of); variable_of = k.variable_of; whole = k.whole })
     ]
 
-apps : (f x g y : Tree) → app f x ≡ app g y → (f ≡ g) × (x ≡ y)
+pub apps : (f x g y : Tree) → app f x ≡ app g y → (f ≡ g) × (x ≡ y)
 apps f x g y e = (cc, cc)
 
 module _ (c : Contents) (variables : List SimpleType) (s t w : Tree) where

@@ -11,11 +11,9 @@ use Rattle.leo_terms.specs.Contents.{Contents, IsBank, tree_at}
 use Rattle.leo_terms.proofs.CallerLemmas.{HasView, reads-var, reads-bound, reads-sym, reads-app, reads-lam, reads-logic, term-present}
 use Rattle.leo_kernel.specs.ChosenTerms.{renamed}
 use Rattle.leo_kernel.specs.ChosenMatching.{LeadsTo, IsFound, IsApart}
+use Rattle.leo_kernel.proofs.ChosenShowing.{apps}
 
 -- the parts of what has the same top
-app-parts : (f x g y : Tree) → app f x ≡ app g y → (f ≡ g) × (x ≡ y)
-app-parts f x g y e = (cc, cc)
-
 lam-part : (a b : SimpleType) (s t : Tree) → lam a s ≡ lam b t → s ≡ t
 lam-part a b s t e = cc
 
@@ -79,7 +77,7 @@ found s t m n a d e f = record { is = λ rho h. number n (rho m) d a (sym f ∙ 
 
 module _ (s t f x g y : Tree) (whole : s ≡ app f x) (other : t ≡ app g y) where
   parts : (rho : ℕ → ℕ) → t ≡ renamed rho s → (g ≡ renamed rho f) × (y ≡ renamed rho x)
-  parts rho h = app-parts g y (renamed rho f) (renamed rho x) (sym other ∙ h ∙ ap (renamed rho) whole)
+  parts rho h = apps g y (renamed rho f) (renamed rho x) (sym other ∙ h ∙ ap (renamed rho) whole)
 
   pub leads-function : LeadsTo s t f g
   leads-function = record { leads = λ rho h. (parts rho h).0 }

@@ -23,7 +23,7 @@ use Rattle.leo_kernel.specs.ChosenClaims.{claim_of}
 use Rattle.leo_kernel.specs.ChosenClauses.{Chooses}
 use Rattle.leo_kernel.proofs.Growing.{clause-kept}
 use Rattle.leo_kernel.proofs.TypedLits.{no}
-use Rattle.leo_kernel.proofs.ChosenClauses.{claims-are, claim-of}
+use Rattle.leo_kernel.proofs.ChosenClauses.{claims-are, claim-of, some-claim}
 use Rattle.leo_kernel.proofs.ChosenGrowing.{lines-kept}
 
 -- the same said of what becomes
@@ -43,9 +43,6 @@ module _ (B R : Claim → Type 0) where
       at : (o : Option Literal) → IsSomeAnd o (λ s. (x : Claim) → B x → StandsFor clause i x s) → IsSomeAnd o (λ s. (x : Claim) → R x → StandsFor clause i x s)
       at None h = h
       at (Some s) h = λ x k. h x (f x k)
-
-some-claim : (x y : Claim) → Some x ≡ Some y → x ≡ y
-some-claim x y e = cc
 
 module _ (lines : List Line) (i : ℕ) (a : Option ℕ) (l : Literal) (o : Option Claim) (r : Bool) where
   module _ (k : LogicKind) (left : IsWellTyped l.left) (right : IsWellTyped l.right) (e : o ≡ claim_of k l) where
