@@ -1,0 +1,300 @@
+//! A derivation that is shown to the kernel step by step.
+
+ghost use Rattle.std.specs.Prelude.{◌≡◌, ◌<◌, IfOk, IfSome, List, length};
+ghost use Rattle.leo_terms.specs.Contents.{AreTerms, Contents, Extends};
+ghost use Rattle.leo_clause.specs.Typed.{AreTypesOf, IsClauseOf};
+ghost use Rattle.leo_kernel.specs.Records.{AreTermsOfRule, IsStepOf};
+ghost use Rattle.kernel_rows.specs.Boards.{IsBoard};
+ghost use Rattle.kernel_rows.specs.Stacks.{AreSymbols};
+
+use crate::reading::{literals, symbol_of, term};
+use leo_clause::{Clause, Rule, StepRecord};
+use leo_items::Items;
+use leo_kernel::{Reason, StepRefusal, check_step};
+use leo_terms::{Bank, SymId, TermId, TyId};
+use std::alloc::{AllocError, Global};
+
+/// How the kernel answers.
+#[derive(Clone, Copy)]
+pub(crate) enum Answer {
+    Accepted,
+    Refused(Reason),
+    NoMemory,
+    /// The row's text is no clause, so that the kernel is not asked.
+    NoClause,
+}
+
+/// The types that variables may have, the symbols, the hypotheses, and the lines so far.
+#[derive(Drop)]
+pub(crate) struct Board {
+    types: Items<TyId>,
+    symbols: Items<SymId>,
+    hyps: Items<TermId>,
+    lines: Vec<StepRecord>,
+}
+
+/// The types of things and truth values, and of functions and properties of things.
+fn make_types(alloc: Global, bank: &mut Bank) -> Result<Items<TyId>, AllocError>
+    ensures types { IfOk result (AreTypesOf bank.new) }
+    ensures grows { Extends bank.old bank.new }
+{
+    bank.is_sound();
+    let (truth, thing) = (TyId::truth(), TyId::thing());
+    let function = bank.arrow(thing, thing)?;
+    let property = bank.arrow(thing, truth)?;
+    let relation = bank.arrow(thing, property)?;
+    let types = Items::from_slice(alloc, &[truth, thing, function, property, relation])?;
+    Ok(types)
+}
+
+/// The place of each symbol's type among the types.
+const SYMBOL_TYPES: [usize; 13] = [1, 1, 2, 2, 0, 0, 3, 4, 1, 2, 1, 1, 1];
+
+/// A symbol of the type at a place.
+fn put_symbol(
+    bank: &mut Bank,
+    types: &[TyId],
+    place: usize,
+    symbols: &mut Items<SymId>,
+) -> Result<(), AllocError>
+    requires types { AreTypesOf bank.old types.now }
+    requires symbols { AreSymbols bank.old symbols.old }
+    ensures symbols { AreSymbols bank.new symbols.new }
+    ensures grows { Extends bank.old bank.new }
+{
+    bank.is_sound();
+    if place >= types.len() {
+        return Ok(());
+    }
+    let symbol = bank.fresh(types[place])?;
+    symbols.push(symbol)?;
+    Ok(())
+}
+
+fn make_symbols(alloc: Global, bank: &mut Bank, types: &[TyId]) -> Result<Items<SymId>, AllocError>
+    requires { AreTypesOf bank.old types.now }
+    ensures symbols { IfOk result (AreSymbols bank.new) }
+    ensures grows { Extends bank.old bank.new }
+{
+    bank.is_sound();
+    let mut symbols = Items::new(alloc);
+    for place in SYMBOL_TYPES {
+        put_symbol(bank, types, place, &mut symbols)?;
+    }
+    Ok(symbols)
+}
+
+/// A board without hypotheses and lines.
+pub(crate) fn make_board(alloc: Global, bank: &mut Bank) -> Result<Board, AllocError>
+    ensures board { IfOk result (IsBoard bank.new) }
+    ensures grows { Extends bank.old bank.new }
+{
+    bank.is_sound();
+    let types = make_types(alloc, bank)?;
+    let symbols = make_symbols(alloc, bank, types.as_slice())?;
+    Ok(Board {
+        types,
+        symbols,
+        hyps: Items::new(alloc),
+        lines: Vec::new(alloc),
+    })
+}
+
+/// The type at a place.
+fn put_type(
+    bank: &Bank,
+    types: &[TyId],
+    place: usize,
+    vars: &mut Items<TyId>,
+) -> Result<(), AllocError>
+    requires types { AreTypesOf bank.now types.now }
+    requires vars { AreTypesOf bank.now vars.old }
+    ensures vars { AreTypesOf bank.now vars.new }
+{
+    let _ = bank;
+    if place >= types.len() {
+        return Ok(());
+    }
+    vars.push(types[place])?;
+    Ok(())
+}
+
+/// The types of variables, by the digits of their places among the types.
+fn variable_types(
+    alloc: Global,
+    bank: &Bank,
+    types: &[TyId],
+    text: &[u8],
+) -> Result<Items<TyId>, AllocError>
+    requires { AreTypesOf bank.now types.now }
+    ensures { IfOk result (AreTypesOf bank.now) }
+{
+    let _ = bank;
+    let mut vars = Items::new(alloc);
+    for digit in text {
+        put_type(bank, types, digit.wrapping_sub(b'0') as usize, &mut vars)?;
+    }
+    Ok(vars)
+}
+
+/// A clause of texts.
+fn read_clause(
+    alloc: Global,
+    bank: &mut Bank,
+    board: &Board,
+    vars: &str,
+    texts: &[&str],
+) -> Result<Option<Clause>, AllocError>
+    requires { IsBoard bank.old board.now }
+    ensures clause { IfOk result (λ c. IfSome c (IsClauseOf bank.new)) }
+    ensures grows { Extends bank.old bank.new }
+{
+    bank.is_sound();
+    let vars = variable_types(alloc, bank, board.types.as_slice(), vars.as_bytes())?;
+    let read = literals(
+        alloc,
+        bank,
+        board.symbols.as_slice(),
+        vars.as_slice(),
+        texts,
+    )?;
+    match read {
+        Some(lits) => Ok(Some(Clause { vars, lits })),
+        None => Ok(None),
+    }
+}
+
+/// How the kernel answers to a step.
+fn asked(alloc: Global, bank: &mut Bank, board: &Board, step: &StepRecord) -> Answer
+    requires board { IsBoard bank.old board.now }
+    requires step { IsStepOf bank.old step.now }
+    ensures grows { Extends bank.old bank.new }
+{
+    let hyps = board.hyps.as_slice();
+    let lines = board.lines.as_slice();
+    match check_step(alloc, bank, hyps, lines, step) {
+        Ok(()) => Answer::Accepted,
+        Err(StepRefusal::Refused { reason }) => Answer::Refused(reason),
+        Err(StepRefusal::Memory) => Answer::NoMemory,
+    }
+}
+
+/// A line that nothing is asked about.
+pub(crate) fn put_line(
+    alloc: Global,
+    bank: &mut Bank,
+    board: &mut Board,
+    vars: &str,
+    texts: &[&str],
+    rule: Rule,
+) -> Result<bool, AllocError>
+    requires board { IsBoard bank.old board.old }
+    requires rule { AreTermsOfRule bank.old rule }
+    ensures board { IsBoard bank.new board.new }
+    ensures grows { Extends bank.old bank.new }
+{
+    let read = read_clause(alloc, bank, board, vars, texts)?;
+    match read {
+        Some(clause) => {
+            board.lines.push(StepRecord { clause, rule })?;
+            Ok(true)
+        }
+        None => Ok(false),
+    }
+}
+
+/// How the kernel answers to a step of texts.
+pub(crate) fn ask(
+    alloc: Global,
+    bank: &mut Bank,
+    board: &Board,
+    vars: &str,
+    texts: &[&str],
+    rule: Rule,
+) -> Result<Answer, AllocError>
+    requires board { IsBoard bank.old board.now }
+    requires rule { AreTermsOfRule bank.old rule }
+    ensures grows { Extends bank.old bank.new }
+{
+    let read = read_clause(alloc, bank, board, vars, texts)?;
+    let Some(clause) = read else {
+        return Ok(Answer::NoClause);
+    };
+    let step = StepRecord { clause, rule };
+    let answer = asked(alloc, bank, board, &step);
+    Ok(answer)
+}
+
+impl Board {
+    /// The rule that abbreviates a term by a symbol; the letter is that of a symbol.
+    pub(crate) fn abbreviate(&self, letter: u8) -> Rule
+        ensures { (c : Contents) → AreTermsOfRule c result }
+    {
+        match symbol_of(self.symbols.as_slice(), letter) {
+            Some(symbol) => Rule::Abbreviate { symbol },
+            None => Rule::Refl,
+        }
+    }
+}
+
+/// The rule that puts terms in for the variables of a line.
+pub(crate) fn instance(
+    alloc: Global,
+    bank: &mut Bank,
+    board: &Board,
+    parent: u64,
+    texts: &[&str],
+) -> Result<Rule, AllocError>
+    requires { IsBoard bank.old board.now }
+    ensures rule { IfOk result (AreTermsOfRule bank.new) }
+    ensures grows { Extends bank.old bank.new }
+{
+    bank.is_sound();
+    let mut sigma = Items::new(alloc);
+    for text in texts {
+        put_term(alloc, bank, board.symbols.as_slice(), text, &mut sigma)?;
+    }
+    Ok(Rule::Inst { parent, sigma })
+}
+
+/// A term of a text, if it is one.
+fn put_term(
+    alloc: Global,
+    bank: &mut Bank,
+    symbols: &[SymId],
+    text: &str,
+    terms: &mut Items<TermId>,
+) -> Result<(), AllocError>
+    requires symbols { AreSymbols bank.old symbols.now }
+    requires terms { AreTerms bank.old terms.old }
+    ensures terms { AreTerms bank.new terms.new }
+    ensures grows { Extends bank.old bank.new }
+{
+    let read = term(alloc, bank, symbols, text.as_bytes())?;
+    let Some(t) = read else {
+        return Ok(());
+    };
+    terms.push(t)?;
+    Ok(())
+}
+
+/// A hypothesis of the text of one term.
+pub(crate) fn put_hypothesis(
+    alloc: Global,
+    bank: &mut Bank,
+    board: &mut Board,
+    text: &str,
+) -> Result<bool, AllocError>
+    requires { IsBoard bank.old board.old }
+    ensures board { IsBoard bank.new board.new }
+    ensures grows { Extends bank.old bank.new }
+{
+    let read = term(alloc, bank, board.symbols.as_slice(), text.as_bytes())?;
+    match read {
+        Some(t) => {
+            board.hyps.push(t)?;
+            Ok(true)
+        }
+        None => Ok(false),
+    }
+}
