@@ -30,6 +30,9 @@ more-parts t u ts us e = ((cc), (cc))
 pub seen-symbol : (ns : List FoNode) (h : Term → Term) (r : Substitution) (at f k : ℕ) → slice_get ns at ≡ Some (Sym f k) → seen ns h r at ≡ h (symbol f (apply_to_all r (first_terms k (terms_at ns (suc at)))))
 seen-symbol ns h r at f k e = ap (λ (t : Term). h (apply r t)) (term_at-symbol ns at f k e)
 
+same_variable : (v w : ℕ) → Some (Var v) ≡ Some (Var w) → v ≡ w
+same_variable v w e = cc
+
 seen-variable : (ns : List FoNode) (h : Term → Term) (r : Substitution) (at v : ℕ) → slice_get ns at ≡ Some (Var v) → seen ns h r at ≡ h (r v)
 seen-variable ns h r at v e = ap (λ (t : Term). h (apply r t)) (term_at-variable ns at v e)
 
@@ -53,6 +56,13 @@ module _ (ns : List FoNode) (bs : List Binding) (ps : List ℕ) (left right : �
     can = record { free = right_resolved v r; inside = left_inside; resolved = left_resolved; other = (λ e. cc); stands = (right, r) };
     from = λ h s a e. sym (seen-variable ns h s right v r) ∙ sym e;
     back = λ h s a e. sym (seen-variable ns h s right v r ∙ e);
+  }
+
+  pub move-turned : (v w : ℕ) → IsResolved ns bs left → IsResolved ns bs right → slice_get ns left ≡ Some (Var v) → slice_get ns right ≡ Some (Var w) → v ≢ w → IsMove ns bs ps left right (Bind (record { variable = w; place = left }))
+  move-turned v w left_resolved right_resolved l r d = record {
+    can = record { free = right_resolved w r; inside = left_inside; resolved = left_resolved; other = (λ e. let same : v ≡ w = same_variable v w (sym l ∙ e) in d same); stands = (right, r) };
+    from = λ h s a e. sym (seen-variable ns h s right w r) ∙ sym e;
+    back = λ h s a e. sym (seen-variable ns h s right w r ∙ e);
   }
 
   pub move-clash : (f k g m : ℕ) → IsFull ns → slice_get ns left ≡ Some (Sym f k) → slice_get ns right ≡ Some (Sym g m) → (f ≢ g) ⊎ (k ≢ m) → IsMove ns bs ps left right Clash

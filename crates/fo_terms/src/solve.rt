@@ -11,7 +11,6 @@ use crate::bindings::{Binding, Bindings, Equation};
 use crate::classes::Classes;
 use crate::places::Places;
 use crate::term::FoNode;
-use crate::walk::is_variable;
 use std::alloc::AllocError;
 
 /// Equal symbols stand at two places: once their classes, which have these roots, are one, their
@@ -68,6 +67,38 @@ fn open(
     })
 }
 
+/// Free variables stand at two places. The one with the larger number is bound, so that a row of
+/// variables leads to its least one at once.
+fn join_variables(
+    places: &Places,
+    bindings: &Bindings,
+    classes: &Classes,
+    left: (usize, u32),
+    right: (usize, u32),
+) -> Step
+    requires left { left.0 < length places.now.nodes.items }
+    requires right { right.0 < length places.now.nodes.items }
+    requires left_is { slice_get places.now.nodes.items left.0 ≡ Some (FoNode.Var left.1) }
+    requires right_is { slice_get places.now.nodes.items right.0 ≡ Some (FoNode.Var right.1) }
+    requires left_resolved { IsResolved places.now.nodes.items bindings.now.made.items left.0 }
+    requires right_resolved { IsResolved places.now.nodes.items bindings.now.made.items right.0 }
+    ensures { IsMove places.now.nodes.items bindings.now.made.items classes.now.parents.items left.0 right.0 result }
+{
+    if left.1 == right.1 {
+        return Step::Split;
+    }
+    if left.1 < right.1 {
+        return Step::Bind(Binding {
+            variable: right.1,
+            place: left.0,
+        });
+    }
+    Step::Bind(Binding {
+        variable: left.1,
+        place: right.0,
+    })
+}
+
 /// The terms at two resolved places are to be equal.
 fn compare(
     places: &Places,
@@ -86,15 +117,19 @@ fn compare(
     ensures { IsMove places.now.nodes.items bindings.now.made.items classes.now.parents.items left right result }
 {
     match places.node(left) {
-        FoNode::Var(variable) => {
-            if is_variable(places.node(right), variable) {
-                return Step::Split;
-            }
-            Step::Bind(Binding {
+        FoNode::Var(variable) => match places.node(right) {
+            FoNode::Var(other) => join_variables(
+                places,
+                bindings,
+                classes,
+                (left, variable),
+                (right, other),
+            ),
+            FoNode::Sym(_, _) => Step::Bind(Binding {
                 variable,
                 place: right,
-            })
-        }
+            }),
+        },
         FoNode::Sym(symbol, arguments) => match places.node(right) {
             FoNode::Var(variable) => Step::Bind(Binding {
                 variable,

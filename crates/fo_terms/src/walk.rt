@@ -83,15 +83,6 @@ fn open_span(
     }
 }
 
-pub(crate) fn is_variable(node: FoNode, variable: u32) -> bool
-    ensures { IsTrue result ↔ (node ≡ FoNode.Var variable) }
-{
-    match node {
-        FoNode::Var(other) => other == variable,
-        FoNode::Sym(_, _) => false,
-    }
-}
-
 /// What the bindings make of the term at a place.
 pub(crate) fn applied_at(
     alloc: Global,

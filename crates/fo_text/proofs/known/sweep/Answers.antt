@@ -1,9 +1,9 @@
-use Rattle.std.proofs.Common.{ℕ, ◌≡◌, ◌<◌, ◌+◌, ◌∙◌, sym, length, refl, true, false, Some, Bool, List}
+use Rattle.std.proofs.Common.{ℕ, ◌≡◌, ◌<◌, ◌∙◌, sym, length, refl, true, false, Some, Bool, List}
 use Rattle.std.specs.Prelude.{slice_get}
 use Rattle.std.specs.BTreeMap.{BTreeMap}
 use Rattle.std.proofs.lemmas.Option.{slice_get_read}
 use Rattle.fo_text.specs.declared.problem.FoSym.{FoSym}
-use Rattle.fo_text.specs.Known.{IsTry, IsGrown, HasResults, unknown_results}
+use Rattle.fo_text.specs.Known.{IsTry, IsGrown, unknown_results}
 use Rattle.fo_text.proofs.KnownSorts.{IsGrown-try, fewer-try, results-try}
 use Rattle.fo_text.proofs.known.sweep.Goals as goal
 use Rattle.fo_text.proofs.known.sweep.Goals.{then-branch, else-branch}
