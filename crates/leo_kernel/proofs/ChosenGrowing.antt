@@ -1,16 +1,16 @@
 -- Claims of a bank that grew, and the lines among which abbreviations are looked up.
-use Rattle.std.proofs.Common.{ℕ, suc, ◌≡◌, ◌∙◌, ◌<◌, Bool, List, [], ◌∷◌, length, map, slice_get, slice_index_or, Some, None, refl, arith}
+use Rattle.std.proofs.Common.{ℕ, ◌≡◌, ◌∙◌, ◌<◌, Bool, List, [], ◌∷◌, length, map, slice_get, slice_index_or, Some, None, refl, arith}
 use Rattle.std.specs.Bool.{Decides}
 use Rattle.std.specs.Option.{option_map}
 use Rattle.leo_terms.specs.Tree.{type_of}
 use Rattle.leo_terms.specs.NormalForm.{normal_form}
 use Rattle.leo_terms.specs.Contents.{Contents, Extends, type_at, tree_at}
-use Rattle.leo_terms.proofs.CallerLemmas.{type-kept, tree-kept, trees-kept, type_number-kept, arrow-kept}
+use Rattle.leo_terms.proofs.CallerLemmas.{type-kept, tree-kept, type_number-kept, arrow-kept}
 use Rattle.leo_clause.specs.declared.clause.Lit.{Lit}
 use Rattle.leo_clause.specs.declared.record.Rule.{Rule}
 use Rattle.leo_clause.specs.declared.record.Rule.TheVariants as record_of
 use Rattle.leo_clause.specs.declared.record.StepRecord.{StepRecord}
-use Rattle.leo_clause.specs.Trees.{Literal, ClauseTree, literal_at, clause_at}
+use Rattle.leo_clause.specs.Trees.{Literal, literal_at}
 use Rattle.leo_clause.specs.Typed.{AreTypesOf}
 use Rattle.leo_kernel.specs.declared.chosen_claims.Claim as declared
 use Rattle.leo_kernel.specs.declared.chosen_claims.Claim.TheVariants as said
@@ -19,12 +19,11 @@ use Rattle.leo_kernel.specs.ByNumber.{only}
 use Rattle.leo_kernel.specs.Choosing.{Claim, chosen, chosen_type}
 use Rattle.leo_kernel.specs.ChosenTerms.{MayHaveForm}
 use Rattle.leo_kernel.specs.ChosenClaims.{IsClaimOf, IsWanted, claim_at}
-use Rattle.leo_kernel.specs.Records.{AreTermsOfRule, IsStepOf, AreStepsOf}
-use Rattle.leo_kernel.specs.Steps.{StepRule, Line, line_at, rule_at}
+use Rattle.leo_kernel.specs.Steps.{line_at, rule_at}
 use Rattle.leo_kernel.specs.Symbols.{only_literal, abbreviation_in, abbreviation_of}
 use Rattle.leo_kernel.specs.Tops.{IsPropertyOf}
 use Rattle.leo_kernel.proofs.FormRules.{kept-within}
-use Rattle.leo_kernel.proofs.Growing.{types-kept, clause-kept}
+use Rattle.leo_kernel.proofs.Growing.{types-kept}
 use Rattle.leo_kernel.proofs.Lists.{get-map, get-index, length-map}
 use Rattle.leo_kernel.proofs.ChosenMaking.{function-kept}
 
@@ -49,36 +48,6 @@ module _ {c d : Contents} (e : Extends c d) where
 
   pub may-fit-wanted : (claim : Claim) (w : Wanted) → IsWanted d w claim → (vars : List ℕ) → AreTypesOf c vars → (t : ℕ) → t < length c.terms → (r : Bool) → Decides r (MayHaveForm (map (type_at d) vars) (type_at d w.ty) (tree_at d w.form) (tree_at d t)) → Decides r (MayHaveForm (map (type_at c) vars) (chosen_type claim) (normal_form (chosen claim)) (tree_at c t))
   may-fit-wanted claim w h vars types t l r k = rw (types-kept e vars types, tree-kept e t l, h.type_is, h.reads) at k
-
-  -- lines
-  rule-kept : (r : Rule) → AreTermsOfRule c r → rule_at d r ≡ rule_at c r
-  rule-kept (record_of.Inst p sigma) h = rw (trees-kept e sigma h) refl
-  rule-kept (record_of.Axiom h) k = refl
-  rule-kept (record_of.Convert p) k = refl
-  rule-kept (record_of.Para p i s q j r path) k = refl
-  rule-kept (record_of.Arrange p) k = refl
-  rule-kept (record_of.Drop p i) k = refl
-  rule-kept (record_of.Logic p i kind a) k = refl
-  rule-kept (record_of.BoolExt p i half) k = refl
-  rule-kept (record_of.FuncExt p i a) k = refl
-  rule-kept (record_of.Decompose p i) k = refl
-  rule-kept record_of.Refl k = refl
-  rule-kept record_of.Choice k = refl
-  rule-kept (record_of.Factor p i j) k = refl
-  rule-kept (record_of.Abbreviate s) k = refl
-
-  line-of : (x y : ClauseTree) (r q : StepRule) → x ≡ y → r ≡ q → ◌≡◌ {A = Line} (record { clause = x; rule = r }) (record { clause = y; rule = q })
-  line-of x y r q e f = rw (e, f) refl
-
-  pub line-kept : (s : StepRecord) → IsStepOf c s → line_at d s ≡ line_at c s
-  line-kept s h = line-of (clause_at d s.clause) (clause_at c s.clause) (rule_at d s.rule) (rule_at c s.rule) (clause-kept e s.clause h.clause_of) (rule-kept s.rule h.terms_of)
-
-  pub lines-kept : (lines : List StepRecord) → AreStepsOf c lines → map (line_at d) lines ≡ map (line_at c) lines
-  lines-kept [] h = refl
-  lines-kept (s ∷ lines) h = consed (line-kept s (h 0 s refl)) (lines-kept lines (λ n k f. h (suc n) k f))
-    where
-      consed : {x y : Line} {us vs : List Line} → x ≡ y → us ≡ vs → x ∷ us ≡ y ∷ vs
-      consed {x} {y} {us} {vs} p q = rw (p, q) refl
 
 -- the abbreviation of a line
 pub only-literals : (c : Contents) (ls : List Lit) → option_map (literal_at c) (only ls) ≡ only_literal (map (literal_at c) ls)

@@ -18,7 +18,7 @@ use Rattle.leo_kernel.specs.ChosenTerms.{renamed, descending}
 use Rattle.leo_kernel.specs.ChosenClaims.{IsFunctionOf}
 use Rattle.leo_kernel.specs.ChosenMatching.{IsCandidateOf, HasNoCandidate, IsCandidate, LeadsToType, IsFreshOf, IsFreshSoFar, MayGet, IsFirstOf, IsFirst, IsNextOf}
 use Rattle.leo_kernel.proofs.FormRules.{kept-within}
-use Rattle.leo_kernel.proofs.Growing.{types-kept, clause-grow}
+use Rattle.leo_kernel.proofs.Growing.{types-kept}
 use Rattle.leo_kernel.proofs.Lists.{get-map}
 use Rattle.leo_kernel.proofs.TypedLits.{no}
 use Rattle.leo_kernel.proofs.ChosenRenaming.{range-normal}
@@ -219,9 +219,6 @@ base-none c b vars w t m n l k e f other h =
     fresh-nowhere c b t m n (type_at c w.ty) l e f
     (λ q. other (type-shared b (type_number c t) w.ty (type_number-within b t l) k (sym (type_of-term b t l) ∙ q)))
     (may-lead c vars w (tree_at c t) h)
-
-pub types-grow : {c d : Contents} → Extends c d → (vars : List ℕ) → AreTypesOf c vars → AreTypesOf d vars
-types-grow e vars h = (clause-grow e (record { vars = vars; lits = [] }) (record { types_of = h; literals_of = tt })).types_of
 
 module _ {a c d : Contents} (e : Extends a c) (vars : List ℕ) (w : Wanted) (types : AreTypesOf a vars) (ty : w.ty < length a.types) (form : w.form < length a.terms) (t : Tree) (u v : ℕ) (next : IsNextOf c d vars w u v) where
   pub there-on : (MayGet a vars w t → MayGet a vars w (tree_at c u)) → MayGet a vars w t → MayGet a vars w (tree_at d v)

@@ -24,7 +24,7 @@ use Rattle.leo_kernel.specs.ChosenClauses.{Chooses}
 use Rattle.leo_kernel.proofs.Growing.{clause-kept}
 use Rattle.leo_kernel.proofs.TypedLits.{no}
 use Rattle.leo_kernel.proofs.ChosenClauses.{claims-are, claim-of, some-claim}
-use Rattle.leo_kernel.proofs.ChosenGrowing.{lines-kept}
+use Rattle.leo_kernel.proofs.LinesGrowing.{lines-kept}
 
 -- the same said of what becomes
 module _ (B R : Claim → Type 0) where

@@ -1,7 +1,7 @@
 use Rattle.leo_terms.proofs.CallerLemmas.{extends-trans}
 use Rattle.leo_kernel.specs.ChosenClaims.{claim_at}
 use Rattle.leo_kernel.proofs.ChosenGrowing.{may-fit-wanted}
-use Rattle.leo_kernel.proofs.ChosenNext.{types-grow}
+use Rattle.leo_kernel.proofs.Growing.{types-grow}
 use Rattle.leo_kernel.proofs.chosen.may_fit_claim.Goals as goal
 
 pub may_fit-requires-clause-vars : goal.may_fit-requires-clause-vars

@@ -5,7 +5,7 @@ use Rattle.leo_kernel.specs.ChosenClaims.{claim_at}
 use Rattle.leo_kernel.proofs.Growing.{types-kept}
 use Rattle.leo_kernel.proofs.ChosenClauses.{stands-shown, stands-untyped, stands-nothing}
 use Rattle.leo_kernel.proofs.ChosenGrowing.{claim-grows, claim-kept}
-use Rattle.leo_kernel.proofs.ChosenNext.{types-grow}
+use Rattle.leo_kernel.proofs.Growing.{types-grow}
 use Rattle.leo_kernel.proofs.chosen.stands_for.Goals as goal
 
 pub fits_claim-requires-clause-claim : goal.fits_claim-requires-clause-claim

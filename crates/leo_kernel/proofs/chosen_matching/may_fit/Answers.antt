@@ -1,6 +1,7 @@
 use Rattle.leo_terms.specs.Contents.{tree_at}
 use Rattle.leo_terms.proofs.CallerLemmas.{extends-itself, extends-trans}
-use Rattle.leo_kernel.proofs.ChosenNext.{types-grow, there-on, back-on, none-on, get-decides, type-same}
+use Rattle.leo_kernel.proofs.Growing.{types-grow}
+use Rattle.leo_kernel.proofs.ChosenNext.{there-on, back-on, none-on, get-decides, type-same}
 use Rattle.leo_kernel.proofs.chosen_matching.may_fit.Goals as goal
 
 pub loop-bank-init : goal.loop-bank-init
