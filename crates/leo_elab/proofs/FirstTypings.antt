@@ -52,7 +52,7 @@ types-constant n atom ty (p ∷ ps) o e h = by (bytes_eq atom p.0) (declares_typ
 
 -- ---- constants
 
-any-named : (atom : List ℕ) (cs : List (List ℕ × Constant)) → is_some (named atom cs) ≡ list_any (bytes_eq atom) (map (λ c. c.0) cs)
+pub any-named : (atom : List ℕ) (cs : List (List ℕ × Constant)) → is_some (named atom cs) ≡ list_any (bytes_eq atom) (map (λ c. c.0) cs)
 any-named atom [] = refl
 any-named atom (c ∷ cs) = by (bytes_eq atom c.0) (any-named atom cs)
   where

@@ -13,3 +13,4 @@ pub mod OffenceLaw
 pub mod Pairs
 pub mod FirstTypings
 pub mod Declarations
+pub mod Naming

@@ -1,5 +1,5 @@
 -- What contracts see of the declared atoms, and what they stand for in a bank.
-use Rattle.std.specs.Prelude.{◌≡◌, ℕ, ◌<◌, List, [], ◌∷◌, length, map}
+use Rattle.std.specs.Prelude.{◌≡◌, ℕ, nat_eq, ◌<◌, List, [], ◌∷◌, length, map, Option, Some, None, if◌then◌else◌}
 use Rattle.leo_q0.specs.Terms.{SimpleType}
 use Rattle.leo_terms.specs.Contents.{Contents, type_at, symbol_type}
 use Rattle.leo_elab.specs.Problem.{Declared, Constant}
@@ -8,6 +8,11 @@ use Rattle.leo_elab.specs.Problem.{Declared, Constant}
 pub record Table : Type 0 where
   pub types : List (List ℕ × ℕ)
   pub constants : List (List ℕ × ℕ)
+
+-- the first atom that stands for a number
+abbrev pub atom_of : ℕ → List (List ℕ × ℕ) → Option (List ℕ)
+atom_of number [] = None
+atom_of number (p ∷ ps) = if nat_eq p.1 number then Some p.0 else atom_of number ps
 
 abbrev pub type_entry : Contents → List ℕ × ℕ → List ℕ × SimpleType
 type_entry c p = (p.0, type_at c p.1)

@@ -1,7 +1,9 @@
 //! What the atoms of a problem are.
 
 ghost use Rattle.std.specs.Prelude.{◌≡◌, ◌++◌, ◌∷◌, [], OnOk, None};
+ghost use Rattle.std.specs.Option.{option_map};
 ghost use Rattle.leo_elab.specs.Problem.{named};
+ghost use Rattle.leo_elab.specs.Table.{atom_of};
 
 use indexmap::IndexMap;
 use leo_terms::{SymId, TyId};
@@ -50,6 +52,20 @@ impl Names {
         ensures { result ≡ named atom.now self.now.constants }
     {
         self.constants.get(atom).copied()
+    }
+
+    /// The first atom that is the constant, if there is one.
+    pub fn atom_of(&self, constant: SymId) -> Option<&[u8]>
+        ensures { option_map (λ a. a.now) result ≡ atom_of constant self.now.constants }
+    {
+        for place in 0..self.constants.len() {
+            if let Some((atom, symbol)) = self.constants.get_index(place) {
+                if *symbol == constant {
+                    return Some(atom.as_slice());
+                }
+            }
+        }
+        None
     }
 
     /// Adds an atom as a type.

@@ -1,13 +1,13 @@
 -- Hypotheses, over plain variables.
-use Rattle.std.proofs.Common.{Bool, true, false, cond, ◌||◌, ℕ, zero, suc, ◌+◌, ◌≡◌, ◌≢◌, ◌<◌, ◌≤◌, List, [], ◌∷◌, ◌++◌, length, map, filter, slice_get, drop, Option, Some, None, refl, ap, sym, ◌∙◌, append_assoc, codes, subst, arith}
+use Rattle.std.proofs.Common.{Bool, true, false, cond, ◌||◌, ℕ, zero, suc, ◌+◌, ◌≡◌, ◌≤◌, List, [], ◌∷◌, ◌++◌, length, map, filter, slice_get, drop, Option, Some, None, refl, ap, sym, ◌∙◌, append_assoc, codes, subst, arith}
 use Rattle.std.specs.Option.{is_some}
-use Rattle.std.specs.List.{filter_map, cons_option, list_any}
+use Rattle.std.specs.List.{cons_option}
 use Rattle.std.specs.Str.{bytes_eq}
 use Rattle.std.proofs.lemmas.List.{length-append}
 use Rattle.leo_elab.specs.Typings.{Typing, AreDeclared}
-use Rattle.leo_q0.specs.Terms.{Term, truth, apply}
+use Rattle.leo_q0.specs.Terms.{Term, apply}
 use Rattle.leo_q0.specs.Connectives.{not_term}
-use Rattle.leo_terms.specs.Contents.{Contents, Extends, IsTerm, IsBank, tree_at, type_number}
+use Rattle.leo_terms.specs.Contents.{Contents, Extends, IsTerm, IsBank, tree_at}
 use Rattle.leo_terms.specs.Decode.{decoded}
 use Rattle.leo_terms.specs.Tree as tree
 use Rattle.leo_terms.proofs.CallerLemmas.{tree-kept, type_number-kept, extends-itself, extends-trans}
@@ -16,7 +16,7 @@ use Rattle.leo_syntax.specs.declared.tree.Statement.{Statement}
 use Rattle.leo_syntax.specs.declared.tree.Statement.TheVariants as statement
 use Rattle.leo_elab.specs.Problem.{Declared}
 use Rattle.leo_elab.specs.Table.{Table, AreNamesOf, declared_in}
-use Rattle.leo_elab.specs.Standing.{IsScoped, IsClosedFormula}
+use Rattle.leo_elab.specs.Standing.{IsClosedFormula}
 use Rattle.leo_elab.proofs.Places.{declared-kept, map-last}
 use Rattle.leo_elab.proofs.Declarations.{drop-here, drop-end, append-nothing}
 use Rattle.leo_problem.specs.declared.gathered.Kept.{Kept}
@@ -24,10 +24,10 @@ use Rattle.leo_problem.specs.declared.loaded.Hyp.{Hyp}
 use Rattle.leo_problem.specs.declared.roles.Role.{Role}
 use Rattle.leo_problem.specs.declared.roles.Role.TheVariants as role
 use Rattle.leo_problem.specs.declared.refusal.LoadRefusal.{LoadRefusal}
-use Rattle.leo_problem.specs.declared.refusal.LoadRefusal.TheVariants.{Refused, Memory}
+use Rattle.leo_problem.specs.declared.refusal.LoadRefusal.TheVariants.{Refused}
 use Rattle.leo_problem.specs.declared.refusal.What.TheVariants as what
 use Rattle.leo_problem.specs.Roles.{role_of, assumed}
-use Rattle.leo_problem.specs.Theories.{unlisted, refused_role_or, unlisted_role, conjectured, is_conjecture, conjectures, has_conjecture, byte_of, is_formula, Hypothesis, AreHypotheses, no_more, no_formula, formula, OffendsInFormulas, here, behind_no_formula, behind_formula, meaning_refusal, typing_files, typings, typing_in, is_typing, HaveRoles, Answer, says, Says, theory}
+use Rattle.leo_problem.specs.Theories.{unlisted, refused_role_or, unlisted_role, conjectured, is_conjecture, conjectures, has_conjecture, byte_of, is_formula, Hypothesis, AreHypotheses, no_more, no_formula, formula, OffendsInFormulas, here, behind_no_formula, behind_formula, typing_files, typings, typing_in, is_typing, HaveRoles, Answer, says, Says, theory}
 use Rattle.leo_problem.specs.declared.loaded.Problem.{Problem}
 use Rattle.leo_problem.specs.Loading.{hypothesis_in, theory_of, AreClosedFormulas}
 use Rattle.leo_problem.specs.Steps.{RefusesSecond, AssumesTree, OffendsInTree, AssumesMore, OffendsThere, AreCountedUpTo, AreAssumedUpTo}

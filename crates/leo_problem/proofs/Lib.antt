@@ -1,2 +1,4 @@
 pub mod Assumed
 pub mod Pieces
+pub mod OneTheory
+pub mod OneGathering

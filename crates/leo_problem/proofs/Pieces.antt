@@ -1,5 +1,5 @@
 -- Steps of gathering, over plain variables.
-use Rattle.std.proofs.Common.{Bool, true, false, cond, ◌||◌, eqb, ℕ, zero, suc, ◌+◌, ◌-◌, ◌^◌, ◌≡◌, ◌≢◌, ◌<◌, ◌≤◌, min, List, [], ◌∷◌, ◌++◌, length, slice_get, take, drop, Option, Some, None, IfSome, refl, ap, sym, ◌∙◌, subst, get_or, append_assoc, arith}
+use Rattle.std.proofs.Common.{Bool, true, false, ◌||◌, eqb, ℕ, zero, suc, ◌+◌, ◌-◌, ◌≡◌, ◌≢◌, ◌<◌, ◌≤◌, List, [], ◌∷◌, ◌++◌, length, slice_get, take, drop, Option, Some, None, refl, ap, sym, ◌∙◌, subst, get_or, append_assoc, arith}
 use Rattle.std.proofs.lemmas.Bool.Decides.{nat_tests}
 use Rattle.std.proofs.lemmas.List.{take_more}
 use Rattle.leo_elab.specs.Problem.{Declared}
@@ -19,7 +19,7 @@ use Rattle.leo_syntax.specs.declared.tree.Statement.TheVariants as statement
 use Rattle.leo_syntax.specs.Lexemes.{lexemes}
 use Rattle.leo_syntax.specs.Rules.{file_outcome}
 use Rattle.leo_syntax.specs.Rules as rules_of
-use Rattle.leo_elab.proofs.Declarations.{drop-here, drop-end, append-nothing}
+use Rattle.leo_elab.proofs.Declarations.{drop-here, append-nothing}
 use Rattle.leo_edge.specs.Outside.{HasRisen}
 use Rattle.leo_problem.specs.declared.gathered.Counts.{Counts}
 use Rattle.leo_problem.specs.declared.gathered.Kept.{Kept}

@@ -8,3 +8,4 @@ pub mod Steps
 pub mod Places
 pub mod Pieces
 pub mod Gathered
+pub mod Laws

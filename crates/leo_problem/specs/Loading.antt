@@ -1,10 +1,10 @@
 -- What a problem's files say, by their contents as they are told, the file's name and the root of includes.
-use Rattle.std.specs.Prelude.{◌≡◌, ℕ, ◌<◌, List, [], ◌∷◌, map, Option, Some}
+use Rattle.std.specs.Prelude.{◌≡◌, ℕ, List, [], ◌∷◌, map, Option, Some}
 use Rattle.leo_edge.specs.Outside.{HasRisen}
 use Rattle.leo_terms.specs.Contents.{Contents}
 use Rattle.leo_terms.specs.Contents as bank
 use Rattle.leo_terms.specs.Decode.{decoded}
-use Rattle.leo_elab.specs.Table.{Table, AreNamesOf, declared_in}
+use Rattle.leo_elab.specs.Table.{AreNamesOf, declared_in}
 use Rattle.leo_elab.specs.Standing.{IsClosedFormula}
 use Rattle.leo_problem.specs.declared.gathered.Counts.{Counts}
 use Rattle.leo_problem.specs.declared.gathered.Kept.{Kept}

@@ -4,7 +4,6 @@ use Rattle.std.specs.Option.{is_some}
 use Rattle.std.specs.List.{filter_map, list_any}
 use Rattle.std.specs.Str.{bytes_eq}
 use Rattle.leo_q0.specs.Terms.{Term, truth}
-use Rattle.leo_syntax.specs.declared.tree.TypeTree.{TypeTree}
 use Rattle.leo_syntax.specs.declared.tree.Tree.{Tree}
 use Rattle.leo_syntax.specs.declared.tree.Statement.{Statement}
 use Rattle.leo_syntax.specs.declared.tree.Statement.TheVariants as statement
@@ -16,7 +15,6 @@ use Rattle.leo_elab.specs.Offences.{OffendsAsFormula}
 use Rattle.leo_elab.specs.Typings.{Typing, AreDeclared, IsFirstOffence}
 use Rattle.leo_problem.specs.declared.gathered.Kept.{Kept}
 use Rattle.leo_problem.specs.declared.roles.Role.{Role}
-use Rattle.leo_problem.specs.declared.roles.Role.TheVariants as role
 use Rattle.leo_problem.specs.declared.refusal.LoadRefusal.{LoadRefusal}
 use Rattle.leo_problem.specs.declared.refusal.LoadRefusal.TheVariants.{Refused, Memory}
 use Rattle.leo_problem.specs.declared.refusal.What.TheVariants as what

@@ -5,6 +5,7 @@ mod assuming;
 mod folders;
 mod gathered;
 mod gathering;
+pub mod laws;
 mod loaded;
 mod loading;
 mod reading;

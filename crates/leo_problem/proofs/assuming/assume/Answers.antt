@@ -1,6 +1,5 @@
-use Rattle.std.proofs.Common.{ap}
 use Rattle.leo_terms.proofs.CallerLemmas.{extends-itself}
-use Rattle.leo_problem.proofs.Assumed.{assumed-itself, negated-closed, negated-means}
+use Rattle.leo_problem.proofs.Assumed.{assumed-itself}
 use Rattle.leo_problem.proofs.assuming.assume.Goals as goal
 
 pub returns-in_default : goal.returns-in_default

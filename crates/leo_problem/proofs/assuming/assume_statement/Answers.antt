@@ -1,4 +1,4 @@
-use Rattle.std.proofs.Common.{ap, sym, ◌∙◌}
+use Rattle.std.proofs.Common.{ap, sym}
 use Rattle.std.proofs.lemmas.Result.{err_from_is_err_and}
 use Rattle.leo_terms.proofs.CallerLemmas.{extends-itself}
 use Rattle.leo_elab.specs.Table.{declared_in}

@@ -1,4 +1,4 @@
-use Rattle.std.proofs.Common.{length, refl, arith, ap, ◌≡◌}
+use Rattle.std.proofs.Common.{length, refl, arith, ◌≡◌}
 use Rattle.std.proofs.lemmas.Option.{slice_get_read}
 use Rattle.leo_terms.proofs.CallerLemmas.{extends-trans}
 use Rattle.leo_problem.proofs.Assumed.{assumed-start, assumed-more, assumed-all}

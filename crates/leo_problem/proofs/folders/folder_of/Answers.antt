@@ -1,5 +1,4 @@
-use Rattle.std.proofs.Common.{ap, sym, ◌∙◌, arith, refl, take, length, ℕ, ◌≡◌}
-use Rattle.leo_problem.specs.Gathering.{folder_of}
+use Rattle.std.proofs.Common.{sym, ◌∙◌, arith, ◌≡◌}
 use Rattle.leo_problem.proofs.Pieces.{folder-there, folder-before}
 use Rattle.leo_problem.proofs.folders.folder_of.Goals as goal
 use Rattle.leo_problem.proofs.folders.folder_of.Goals.{then-loop-len-test+else-name-len-ne47, else-loop-len-test}

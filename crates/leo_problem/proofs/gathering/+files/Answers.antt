@@ -1,12 +1,11 @@
-use Rattle.std.proofs.Common.{ℕ, List, [], ◌∷◌, ◌++◌, ◌+◌, ◌≡◌, ◌∙◌, sym, ap, length, refl, inl, inr, arith}
+use Rattle.std.proofs.Common.{ℕ, [], ◌∷◌, ◌++◌, ◌+◌, ◌≡◌, ◌∙◌, ap, length, refl, inl, inr, arith}
 use Rattle.std.proofs.lemmas.Iterator.Adapters.{YieldsList-from_vec}
 use Rattle.std.proofs.lemmas.Iterator.Consumers.{YieldsList-turn, YieldsList-end}
 use Rattle.std.proofs.lemmas.List.{length-append}
 use Rattle.std.proofs.lemmas.Option.{slice_get_read}
 use Rattle.std.proofs.lemmas.Result.{err_from_is_err_and}
-use Rattle.leo_problem.specs.declared.gathered.Counts.{Counts}
 use Rattle.leo_problem.specs.Places.{Place}
-use Rattle.leo_problem.proofs.Pieces.{same-told, gather-refused, gather-statements, refused-include, keeps-included, keeps-itself, no-include, kept-start, kept-more, kept-all, refused-there, fault-earlier, refused-full, refused-inner}
+use Rattle.leo_problem.proofs.Pieces.{same-told, gather-refused, gather-statements, refused-include, keeps-included, keeps-itself, no-include, kept-more, kept-all, refused-there, fault-earlier, refused-full, refused-inner}
 use Rattle.leo_problem.proofs.gathering.+files.Goals as goal
 use Rattle.leo_problem.proofs.gathering.+files.Goals.{include-then-place-ge-MOST_LEVELS-via-then-place-ge-MOST_LEVELS, include-then-place-ge-MOST_LEVELS-via-else-place-ge-MOST_LEVELS+then-counts-ge-MOST_FILES}
 

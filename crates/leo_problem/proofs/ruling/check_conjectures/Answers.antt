@@ -1,4 +1,4 @@
-use Rattle.std.proofs.Common.{length, refl, arith, sym, ◌∙◌, ap}
+use Rattle.std.proofs.Common.{length, refl, arith, sym}
 use Rattle.std.proofs.lemmas.Option.{slice_get_read}
 use Rattle.leo_problem.proofs.Assumed.{counted-second}
 use Rattle.leo_problem.proofs.ruling.check_conjectures.Goals as goal

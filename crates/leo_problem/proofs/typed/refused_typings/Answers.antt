@@ -1,5 +1,5 @@
-use Rattle.std.proofs.Common.{sym, ap}
-use Rattle.leo_elab.specs.Typings.{IsRefusalOf, IsFirstOffence}
+use Rattle.std.proofs.Common.{sym}
+use Rattle.leo_elab.specs.Typings.{IsFirstOffence}
 use Rattle.leo_problem.specs.Theories.{typings}
 use Rattle.leo_problem.proofs.Assumed.{typing-stands}
 use Rattle.leo_problem.proofs.typed.refused_typings.Goals as goal
