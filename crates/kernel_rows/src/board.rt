@@ -1,36 +1,24 @@
 //! A derivation that is shown to the kernel step by step.
 
-ghost use Rattle.std.specs.Prelude.{◌≡◌, ◌<◌, IfOk, IfSome, List, length};
-ghost use Rattle.leo_terms.specs.Contents.{AreTerms, Contents, Extends};
+ghost use Rattle.std.specs.Prelude.{IfOk, IfSome};
+ghost use Rattle.leo_terms.specs.Contents.{Extends};
 ghost use Rattle.leo_clause.specs.Typed.{AreTypesOf, IsClauseOf};
-ghost use Rattle.leo_kernel.specs.Records.{AreTermsOfRule, IsStepOf};
 ghost use Rattle.kernel_rows.specs.Boards.{IsBoard};
 ghost use Rattle.kernel_rows.specs.Stacks.{AreSymbols};
 
-use crate::reading::{literals, symbol_of, term};
-use leo_clause::{Clause, Rule, StepRecord};
+use crate::reading::{literals, term};
+use leo_clause::{Clause, StepRecord};
 use leo_items::Items;
-use leo_kernel::{Reason, StepRefusal, check_step};
 use leo_terms::{Bank, SymId, TermId, TyId};
 use std::alloc::{AllocError, Global};
-
-/// How the kernel answers.
-#[derive(Clone, Copy)]
-pub(crate) enum Answer {
-    Accepted,
-    Refused(Reason),
-    NoMemory,
-    /// The row's text is no clause, so that the kernel is not asked.
-    NoClause,
-}
 
 /// The types that variables may have, the symbols, the hypotheses, and the lines so far.
 #[derive(Drop)]
 pub(crate) struct Board {
-    types: Items<TyId>,
-    symbols: Items<SymId>,
-    hyps: Items<TermId>,
-    lines: Vec<StepRecord>,
+    pub(crate) types: Items<TyId>,
+    pub(crate) symbols: Items<SymId>,
+    pub(crate) hyps: Items<TermId>,
+    pub(crate) lines: Vec<StepRecord>,
 }
 
 /// The types of things and truth values, and of functions and properties of things.
@@ -138,7 +126,7 @@ fn variable_types(
 }
 
 /// A clause of texts.
-fn read_clause(
+pub(crate) fn read_clause(
     alloc: Global,
     bank: &mut Bank,
     board: &Board,
@@ -162,120 +150,6 @@ fn read_clause(
         Some(lits) => Ok(Some(Clause { vars, lits })),
         None => Ok(None),
     }
-}
-
-/// How the kernel answers to a step.
-fn asked(alloc: Global, bank: &mut Bank, board: &Board, step: &StepRecord) -> Answer
-    requires board { IsBoard bank.old board.now }
-    requires step { IsStepOf bank.old step.now }
-    ensures grows { Extends bank.old bank.new }
-{
-    let hyps = board.hyps.as_slice();
-    let lines = board.lines.as_slice();
-    match check_step(alloc, bank, hyps, lines, step) {
-        Ok(()) => Answer::Accepted,
-        Err(StepRefusal::Refused { reason }) => Answer::Refused(reason),
-        Err(StepRefusal::Memory) => Answer::NoMemory,
-    }
-}
-
-/// A line that nothing is asked about.
-pub(crate) fn put_line(
-    alloc: Global,
-    bank: &mut Bank,
-    board: &mut Board,
-    vars: &str,
-    texts: &[&str],
-    rule: Rule,
-) -> Result<bool, AllocError>
-    requires board { IsBoard bank.old board.old }
-    requires rule { AreTermsOfRule bank.old rule }
-    ensures board { IsBoard bank.new board.new }
-    ensures grows { Extends bank.old bank.new }
-{
-    let read = read_clause(alloc, bank, board, vars, texts)?;
-    match read {
-        Some(clause) => {
-            board.lines.push(StepRecord { clause, rule })?;
-            Ok(true)
-        }
-        None => Ok(false),
-    }
-}
-
-/// How the kernel answers to a step of texts.
-pub(crate) fn ask(
-    alloc: Global,
-    bank: &mut Bank,
-    board: &Board,
-    vars: &str,
-    texts: &[&str],
-    rule: Rule,
-) -> Result<Answer, AllocError>
-    requires board { IsBoard bank.old board.now }
-    requires rule { AreTermsOfRule bank.old rule }
-    ensures grows { Extends bank.old bank.new }
-{
-    let read = read_clause(alloc, bank, board, vars, texts)?;
-    let Some(clause) = read else {
-        return Ok(Answer::NoClause);
-    };
-    let step = StepRecord { clause, rule };
-    let answer = asked(alloc, bank, board, &step);
-    Ok(answer)
-}
-
-impl Board {
-    /// The rule that abbreviates a term by a symbol; the letter is that of a symbol.
-    pub(crate) fn abbreviate(&self, letter: u8) -> Rule
-        ensures { (c : Contents) → AreTermsOfRule c result }
-    {
-        match symbol_of(self.symbols.as_slice(), letter) {
-            Some(symbol) => Rule::Abbreviate { symbol },
-            None => Rule::Refl,
-        }
-    }
-}
-
-/// The rule that puts terms in for the variables of a line.
-pub(crate) fn instance(
-    alloc: Global,
-    bank: &mut Bank,
-    board: &Board,
-    parent: u64,
-    texts: &[&str],
-) -> Result<Rule, AllocError>
-    requires { IsBoard bank.old board.now }
-    ensures rule { IfOk result (AreTermsOfRule bank.new) }
-    ensures grows { Extends bank.old bank.new }
-{
-    bank.is_sound();
-    let mut sigma = Items::new(alloc);
-    for text in texts {
-        put_term(alloc, bank, board.symbols.as_slice(), text, &mut sigma)?;
-    }
-    Ok(Rule::Inst { parent, sigma })
-}
-
-/// A term of a text, if it is one.
-fn put_term(
-    alloc: Global,
-    bank: &mut Bank,
-    symbols: &[SymId],
-    text: &str,
-    terms: &mut Items<TermId>,
-) -> Result<(), AllocError>
-    requires symbols { AreSymbols bank.old symbols.now }
-    requires terms { AreTerms bank.old terms.old }
-    ensures terms { AreTerms bank.new terms.new }
-    ensures grows { Extends bank.old bank.new }
-{
-    let read = term(alloc, bank, symbols, text.as_bytes())?;
-    let Some(t) = read else {
-        return Ok(());
-    };
-    terms.push(t)?;
-    Ok(())
 }
 
 /// A hypothesis of the text of one term.

@@ -4,16 +4,19 @@
 mod board;
 mod reading;
 mod rows;
+mod rules;
+mod steps;
 mod telling;
 
 ghost use Rattle.kernel_rows.specs.Boards.{IsBoard};
 
 use crate::board::{Board, make_board};
 use crate::rows::{
-    arrangements, axioms, cases, chosen_things, connectives, conversions, decompositions,
-    definitions, derivation, drops, factors, fifth_lines, first_lines, fourth_lines, functions,
-    hypotheses, instances, paramodulants, second_lines, third_lines,
+    ARRANGEMENTS, ASSUMPTIONS, AXIOMS, CASES, CHOSEN_THINGS, CONNECTIVES, CONVERSIONS,
+    DECOMPOSITIONS, DEFINITIONS, DERIVATION, DROPS, FACTORS, FUNCTIONS, HYPOTHESES, INSTANCES,
+    LINES, PARAMODULANTS,
 };
+use crate::telling::{derive, put_hypotheses, put_lines, tell};
 use leo_terms::Bank;
 use std::alloc::Global;
 use std::process::ExitCode;
@@ -21,25 +24,22 @@ use std::process::ExitCode;
 fn all_rows(rt: &impl Print, alloc: Global, bank: &mut Bank, board: &mut Board)
     requires { IsBoard bank.old board.old }
 {
-    first_lines(rt, alloc, bank, board);
-    second_lines(rt, alloc, bank, board);
-    third_lines(rt, alloc, bank, board);
-    fourth_lines(rt, alloc, bank, board);
-    fifth_lines(rt, alloc, bank, board);
-    hypotheses(rt, alloc, bank, board);
-    conversions(rt, alloc, bank, board);
-    instances(rt, alloc, bank, board);
-    paramodulants(rt, alloc, bank, board);
-    arrangements(rt, alloc, bank, board);
-    drops(rt, alloc, bank, board);
-    connectives(rt, alloc, bank, board);
-    chosen_things(rt, alloc, bank, board);
-    cases(rt, alloc, bank, board);
-    functions(rt, alloc, bank, board);
-    decompositions(rt, alloc, bank, board);
-    axioms(rt, alloc, bank, board);
-    factors(rt, alloc, bank, board);
-    definitions(rt, alloc, bank, board);
+    put_hypotheses(rt, alloc, bank, board, HYPOTHESES);
+    put_lines(rt, alloc, bank, board, LINES);
+    tell(rt, alloc, bank, board, ASSUMPTIONS);
+    tell(rt, alloc, bank, board, CONVERSIONS);
+    tell(rt, alloc, bank, board, INSTANCES);
+    tell(rt, alloc, bank, board, PARAMODULANTS);
+    tell(rt, alloc, bank, board, ARRANGEMENTS);
+    tell(rt, alloc, bank, board, DROPS);
+    tell(rt, alloc, bank, board, CONNECTIVES);
+    tell(rt, alloc, bank, board, CHOSEN_THINGS);
+    tell(rt, alloc, bank, board, CASES);
+    tell(rt, alloc, bank, board, FUNCTIONS);
+    tell(rt, alloc, bank, board, DECOMPOSITIONS);
+    tell(rt, alloc, bank, board, AXIOMS);
+    tell(rt, alloc, bank, board, FACTORS);
+    tell(rt, alloc, bank, board, DEFINITIONS);
 }
 
 // The rows on one board, and the derivation on another.
@@ -49,7 +49,8 @@ fn both(rt: &impl Print, alloc: Global, bank: &mut Bank) {
         all_rows(rt, alloc, bank, &mut board);
     }
     if let Ok(mut board) = make_board(alloc, bank) {
-        derivation(rt, alloc, bank, &mut board);
+        put_hypotheses(rt, alloc, bank, &mut board, HYPOTHESES);
+        derive(rt, alloc, bank, &mut board, DERIVATION);
     }
 }
 

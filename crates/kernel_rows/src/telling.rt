@@ -1,11 +1,9 @@
 //! One line for one answer.
 
-ghost use Rattle.leo_kernel.specs.Records.{AreTermsOfRule};
 ghost use Rattle.kernel_rows.specs.Boards.{IsBoard};
 
-use crate::board::{Answer, Board, ask, instance, put_hypothesis, put_line};
-use leo_clause::{Rule, Side};
-use leo_items::Items;
+use crate::board::{Board, put_hypothesis};
+use crate::steps::{Answer, ask, put_line, title_of};
 use leo_kernel::Reason;
 use leo_terms::Bank;
 use std::alloc::{AllocError, Global};
@@ -27,173 +25,99 @@ fn text_of(answer: Answer) -> &'static str {
         Answer::Accepted => "accepted",
         Answer::Refused(reason) => name_of(reason),
         Answer::NoMemory => "no memory",
-        Answer::NoClause => "no clause",
+        Answer::NoRow => "not a row",
     }
 }
 
-fn answer_text(answer: Result<Answer, AllocError>) -> &'static str {
-    match answer {
-        Ok(answer) => text_of(answer),
+/// Tells how the kernel answers to a row.
+fn row(rt: &impl Print, alloc: Global, bank: &mut Bank, board: &Board, text: &str) -> Answer
+    requires { IsBoard bank.old board.now }
+    ensures { IsBoard bank.new board.now }
+{
+    let answer = ask(alloc, bank, board, text).unwrap_or(Answer::NoMemory);
+    let (title, told) = (title_of(text), text_of(answer));
+    let _ = println!(rt; "{title}: {told}");
+    answer
+}
+
+/// Tells how the kernel answers to each row.
+pub(crate) fn tell(rt: &impl Print, alloc: Global, bank: &mut Bank, board: &Board, rows: &[&str])
+    requires { IsBoard bank.old board.now }
+    ensures { IsBoard bank.new board.now }
+{
+    for text in rows {
+        row(rt, alloc, bank, board, text);
+    }
+}
+
+/// Says where a text could not be put on the board.
+fn report(rt: &impl Print, text: &str, put: Result<bool, AllocError>) {
+    let told = match put {
+        Ok(true) => return,
+        Ok(false) => "not a row",
         Err(_) => "no memory",
-    }
+    };
+    let _ = println!(rt; "{text}: {told}");
 }
 
-/// Tells how the kernel answers to a step.
-pub(crate) fn row(
-    rt: &impl Print,
-    alloc: Global,
-    bank: &mut Bank,
-    board: &Board,
-    title: &str,
-    vars: &str,
-    texts: &[&str],
-    rule: Rule,
-)
-    requires board { IsBoard bank.old board.now }
-    requires rule { AreTermsOfRule bank.old rule }
-    ensures board { IsBoard bank.new board.now }
-{
-    let text = answer_text(ask(alloc, bank, board, vars, texts, rule));
-    let _ = println!(rt; "{title}: {text}");
-}
-
-/// The same of an instance of a line.
-pub(crate) fn instance_row(
-    rt: &impl Print,
-    alloc: Global,
-    bank: &mut Bank,
-    board: &Board,
-    title: &str,
-    parent: u64,
-    sigma: &[&str],
-    vars: &str,
-    texts: &[&str],
-)
-    requires { IsBoard bank.old board.now }
-    ensures { IsBoard bank.new board.now }
-{
-    match instance(alloc, bank, board, parent, sigma) {
-        Ok(rule) => row(rt, alloc, bank, board, title, vars, texts, rule),
-        Err(_) => {
-            let _ = println!(rt; "{title}: no memory");
-        }
-    }
-}
-
-/// The same of a paramodulant of the first literals of two lines, from the left side of the one into the left side of the
-/// other.
-pub(crate) fn para_row(
-    rt: &impl Print,
-    alloc: Global,
-    bank: &mut Bank,
-    board: &Board,
-    title: &str,
-    from: u64,
-    lit: u32,
-    target: u64,
-    path: &[u8],
-    vars: &str,
-    texts: &[&str],
-)
-    requires { IsBoard bank.old board.now }
-    ensures { IsBoard bank.new board.now }
-{
-    match Items::from_slice(alloc, path) {
-        Ok(path) => {
-            let rule = Rule::Para {
-                from,
-                lit,
-                side: Side::Left,
-                target,
-                place: 0,
-                place_side: Side::Left,
-                path,
-            };
-            row(rt, alloc, bank, board, title, vars, texts, rule)
-        }
-        Err(_) => {
-            let _ = println!(rt; "{title}: no memory");
-        }
-    }
-}
-
-/// A line that nothing is asked about.
-pub(crate) fn line(
+/// Puts the line of each row on the board.
+pub(crate) fn put_lines(
     rt: &impl Print,
     alloc: Global,
     bank: &mut Bank,
     board: &mut Board,
-    vars: &str,
-    texts: &[&str],
-    rule: Rule,
-)
-    requires board { IsBoard bank.old board.old }
-    requires rule { AreTermsOfRule bank.old rule }
-    ensures board { IsBoard bank.new board.new }
-{
-    match put_line(alloc, bank, board, vars, texts, rule) {
-        Ok(true) => {}
-        Ok(false) => {
-            let _ = println!(rt; "no line");
-        }
-        Err(_) => {
-            let _ = println!(rt; "no memory");
-        }
-    }
-}
-
-/// A hypothesis.
-pub(crate) fn hypothesis(
-    rt: &impl Print,
-    alloc: Global,
-    bank: &mut Bank,
-    board: &mut Board,
-    text: &str,
+    rows: &[&str],
 )
     requires { IsBoard bank.old board.old }
     ensures { IsBoard bank.new board.new }
 {
-    match put_hypothesis(alloc, bank, board, text) {
-        Ok(true) => {}
-        Ok(false) => {
-            let _ = println!(rt; "no hypothesis");
-        }
-        Err(_) => {
-            let _ = println!(rt; "no memory");
-        }
+    for text in rows {
+        let put = put_line(alloc, bank, board, text);
+        report(rt, text, put);
     }
 }
 
-/// A line that abbreviates a term by the symbol of a letter.
-pub(crate) fn definition(
+/// Puts a hypothesis on the board for each text of one term.
+pub(crate) fn put_hypotheses(
     rt: &impl Print,
     alloc: Global,
     bank: &mut Bank,
     board: &mut Board,
-    letter: u8,
     texts: &[&str],
 )
     requires { IsBoard bank.old board.old }
     ensures { IsBoard bank.new board.new }
 {
-    let rule = board.abbreviate(letter);
-    line(rt, alloc, bank, board, "", texts, rule);
+    for text in texts {
+        let put = put_hypothesis(alloc, bank, board, text);
+        report(rt, text, put);
+    }
 }
 
-/// Tells how the kernel answers to a definition.
-pub(crate) fn definition_row(
+/// Tells how the kernel answers to a row, and puts its line on the board where the kernel accepts.
+fn next_line(rt: &impl Print, alloc: Global, bank: &mut Bank, board: &mut Board, text: &str)
+    requires { IsBoard bank.old board.old }
+    ensures { IsBoard bank.new board.new }
+{
+    let answer = row(rt, alloc, bank, board, text);
+    if let Answer::Accepted = answer {
+        let put = put_line(alloc, bank, board, text);
+        report(rt, text, put);
+    }
+}
+
+/// Tells how the kernel answers to each row of a derivation, whose lines are those that it accepts.
+pub(crate) fn derive(
     rt: &impl Print,
     alloc: Global,
     bank: &mut Bank,
-    board: &Board,
-    title: &str,
-    letter: u8,
-    vars: &str,
-    texts: &[&str],
+    board: &mut Board,
+    rows: &[&str],
 )
-    requires { IsBoard bank.old board.now }
-    ensures { IsBoard bank.new board.now }
+    requires { IsBoard bank.old board.old }
+    ensures { IsBoard bank.new board.new }
 {
-    let rule = board.abbreviate(letter);
-    row(rt, alloc, bank, board, title, vars, texts, rule);
+    for text in rows {
+        next_line(rt, alloc, bank, board, text);
+    }
 }

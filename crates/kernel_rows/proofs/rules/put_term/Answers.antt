@@ -1,7 +1,7 @@
 use Rattle.std.proofs.Common.{length}
 use Rattle.leo_terms.proofs.CallerLemmas.{are_terms-kept}
 use Rattle.kernel_rows.proofs.Ready.{all-end}
-use Rattle.kernel_rows.proofs.board.put_term.Goals as goal
+use Rattle.kernel_rows.proofs.rules.put_term.Goals as goal
 
 pub returns-in_err-read-clause-terms : goal.returns-in_err-read-clause-terms
 returns-in_err-read-clause-terms c = are_terms-kept c.term.ensures.grows c.args.terms.now c.requires.terms
