@@ -1,6 +1,5 @@
 -- What callers cite of a problem whose bank grew, as `check` leaves it: it is a problem still, with the same hypotheses, and a refutation is one still.
 use Rattle.std.proofs.Common.{◌≡◌, List, [], ◌∷◌, map, refl, sym, subst}
-use Rattle.leo_terms.specs.Tree.{Tree}
 use Rattle.leo_terms.specs.Contents.{Contents, Extends, tree_at}
 use Rattle.leo_terms.proofs.CallerLemmas.{tree-kept}
 use Rattle.leo_clause.specs.declared.record.StepRecord.{StepRecord}
