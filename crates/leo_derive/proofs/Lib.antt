@@ -9,3 +9,4 @@ pub mod Keeping
 pub mod Ordered
 pub mod Checked
 pub mod Falsity
+pub mod CallerLemmas

@@ -112,6 +112,7 @@ pub fn prune(
 ) -> Result<Vec<StepRecord>, AllocError>
     requires lines { AreStepsOf problem.now.bank lines.now }
     requires refutation { IsRefutation (hypotheses_of problem.now) (map (line_at problem.now.bank) lines.now) }
+    ensures steps { IfOk result (λ found. AreStepsOf problem.now.bank found.items) }
     ensures pruned { IfOk result (λ found. IsPruned (map (line_at problem.now.bank) lines.now) (map (line_at problem.now.bank) found.items)) }
     ensures refutation { IfOk result (λ found. IsRefutation (hypotheses_of problem.now) (map (line_at problem.now.bank) found.items)) }
 {

@@ -1,6 +1,7 @@
 //! Rules with other numbers for the lines that they name.
 
 ghost use Rattle.std.specs.Prelude.{ℕ, ◌≡◌, ◌<◌, length, slice_get, Some, IfOk, get_or};
+ghost use Rattle.leo_kernel.specs.Records.{AreTermsOfRule, IsStepOf};
 ghost use Rattle.leo_kernel.specs.Steps.{line_at, rule_at};
 ghost use Rattle.leo_derive.specs.Marking.{AreNumbersBelow};
 ghost use Rattle.leo_derive.specs.Pruning.{numbered_if, numbered_line, numbered_rule};
@@ -30,8 +31,10 @@ fn number_if(numbers: &[u64], line: Option<u64>) -> Option<u64>
 
 /// The same rule, with new numbers for the lines that it names.
 fn numbered(alloc: Global, bank: &Bank, numbers: &[u64], rule: &Rule) -> Result<Rule, AllocError>
-    requires { AreNumbersBelow (length numbers.now) (named (rule_at bank.now rule.now)) }
-    ensures { IfOk result (λ r. rule_at bank.now r ≡ numbered_rule (λ n. get_or numbers.now n 0) (rule_at bank.now rule.now)) }
+    requires terms { AreTermsOfRule bank.now rule.now }
+    requires named { AreNumbersBelow (length numbers.now) (named (rule_at bank.now rule.now)) }
+    ensures terms { IfOk result (AreTermsOfRule bank.now) }
+    ensures rule { IfOk result (λ r. rule_at bank.now r ≡ numbered_rule (λ n. get_or numbers.now n 0) (rule_at bank.now rule.now)) }
 {
     let _ = bank;
     let renumbered = match rule {
@@ -115,8 +118,10 @@ pub(crate) fn numbered_record(
     numbers: &[u64],
     line: &StepRecord,
 ) -> Result<StepRecord, AllocError>
-    requires { AreNumbersBelow (length numbers.now) (named (rule_at bank.now line.now.rule)) }
-    ensures { IfOk result (λ r. line_at bank.now r ≡ numbered_line (λ n. get_or numbers.now n 0) (line_at bank.now line.now)) }
+    requires step { IsStepOf bank.now line.now }
+    requires named { AreNumbersBelow (length numbers.now) (named (rule_at bank.now line.now.rule)) }
+    ensures step { IfOk result (IsStepOf bank.now) }
+    ensures line { IfOk result (λ r. line_at bank.now r ≡ numbered_line (λ n. get_or numbers.now n 0) (line_at bank.now line.now)) }
 {
     let clause = line.clause.copy(alloc)?;
     let rule = numbered(alloc, bank, numbers, &line.rule)?;

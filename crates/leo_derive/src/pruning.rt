@@ -1,7 +1,7 @@
 //! The lines on which the first empty line rests.
 
 ghost use Rattle.std.specs.Prelude.{◌≡◌, ◌<◌, ◌++◌, ◌∷◌, [], length, map, get_or, slice_get, if◌then◌else◌, Some, IfOk, OnOk, IfSome, IfNone};
-ghost use Rattle.leo_kernel.specs.Records.{AreStepsOf};
+ghost use Rattle.leo_kernel.specs.Records.{AreStepsOf, IsStepOf};
 ghost use Rattle.leo_kernel.specs.Steps.{line_at, rule_at};
 ghost use Rattle.leo_derive.specs.Laws.{HasEmptyLine};
 ghost use Rattle.leo_derive.specs.Marking.{AreInOrder, AreNumbersBelow, is_marked};
@@ -44,8 +44,11 @@ fn keep_if(
     line: &StepRecord,
     found: &mut Vec<StepRecord>,
 ) -> Result<(), AllocError>
-    requires { AreNumbersBelow (length numbers.now) (named (rule_at bank.now line.now.rule)) }
-    ensures { OnOk result (map (line_at bank.now) found.new.items ≡ map (line_at bank.now) found.old.items ++ (if stands then numbered_line (λ n. get_or numbers.now n 0) (line_at bank.now line.now) ∷ [] else [])) }
+    requires step { IsStepOf bank.now line.now }
+    requires named { AreNumbersBelow (length numbers.now) (named (rule_at bank.now line.now.rule)) }
+    requires steps { AreStepsOf bank.now found.old.items }
+    ensures steps { OnOk result (AreStepsOf bank.now found.new.items) }
+    ensures kept { OnOk result (map (line_at bank.now) found.new.items ≡ map (line_at bank.now) found.old.items ++ (if stands then numbered_line (λ n. get_or numbers.now n 0) (line_at bank.now line.now) ∷ [] else [])) }
 {
     if !stands {
         return Ok(());
@@ -68,9 +71,11 @@ fn kept(
     lines: &[StepRecord],
     marks: &[bool],
 ) -> Result<Vec<StepRecord>, AllocError>
+    requires lines { AreStepsOf bank.now lines.now }
     requires order { AreInOrder (map (line_at bank.now) lines.now) }
     requires marks { length marks.now ≡ length lines.now }
-    ensures { IfOk result (λ found. map (line_at bank.now) found.items ≡ kept_lines (is_marked marks.now) 0 (map (line_at bank.now) lines.now)) }
+    ensures steps { IfOk result (λ found. AreStepsOf bank.now found.items) }
+    ensures kept { IfOk result (λ found. map (line_at bank.now) found.items ≡ kept_lines (is_marked marks.now) 0 (map (line_at bank.now) lines.now)) }
 {
     let mut found = Vec::new(alloc);
     let mut numbers = Vec::new(alloc);
@@ -91,7 +96,8 @@ pub(crate) fn pruned(
     requires lines { AreStepsOf bank.now lines.now }
     requires order { AreInOrder (map (line_at bank.now) lines.now) }
     requires empty { HasEmptyLine (map (line_at bank.now) lines.now) }
-    ensures { IfOk result (λ found. IsPruned (map (line_at bank.now) lines.now) (map (line_at bank.now) found.items)) }
+    ensures steps { IfOk result (λ found. AreStepsOf bank.now found.items) }
+    ensures pruned { IfOk result (λ found. IsPruned (map (line_at bank.now) lines.now) (map (line_at bank.now) found.items)) }
 {
     let Some(goal) = first_empty(bank, lines) else {
         unreachable!()

@@ -10,4 +10,4 @@ pruned-requires-clause-order c = accepted_in_order (hypotheses_of c.args.problem
 
 pub returns-clause-refutation : goal.returns-clause-refutation
 returns-clause-refutation c =
-    pruned_law (hypotheses_of c.args.problem.now) (map (line_at c.args.problem.now.bank) c.args.lines.now) (map (line_at c.args.problem.now.bank) c.in_ok-found.found.items) c.requires.refutation.0 c.in_ok-found.ensures
+    pruned_law (hypotheses_of c.args.problem.now) (map (line_at c.args.problem.now.bank) c.args.lines.now) (map (line_at c.args.problem.now.bank) c.in_ok-found.found.items) c.requires.refutation.0 c.in_ok-found.ensures.pruned
