@@ -1,25 +1,20 @@
 -- How the answers of the parts make the answer of the whole.
-use Rattle.std.proofs.Common.{◌≡◌, ◌≢◌, ℕ, suc, ◌<◌, ◌≤◌, List, [], ◌∷◌, ◌++◌, length, replicate, codes, arith, Option, Some, None, Result, Ok, Err, Vec, IfOk, IfSome, refl, sym, ap, subst, ◌∙◌}
+use Rattle.std.proofs.Common.{◌≡◌, ◌≢◌, ℕ, Bool, List, [], ◌∷◌, ◌++◌, length, Option, Some, None, Result, Ok, Err, Vec, IfOk, sym, ap, subst, ◌∙◌}
 use Rattle.std.specs.Option.{option_map}
 use Rattle.std.specs.List.{concat, slice_get}
-use Rattle.std.proofs.lemmas.List.{length-replicate}
-use Rattle.leo_edge.specs.Outside.{Appends}
 use Rattle.leo_top.specs.declared.answer.Answer.{Answer}
 use Rattle.leo_top.specs.declared.status.Status.{Status}
-use Rattle.leo_top.specs.declared.status.Status.TheVariants.{InputError, WriteFault, MemoryOut}
-use Rattle.leo_lex.specs.declared.token.Token.{Token}
-use Rattle.leo_lex.specs.declared.token.LexRefusal.{LexRefusal}
-use Rattle.leo_lex.specs.declared.token.LexRefusal.TheVariants.{Lexical}
-use Rattle.leo_lex.specs.Cut.{IsRefusal}
-use Rattle.leo_syntax.specs.declared.tree.Statement.{Statement}
-use Rattle.leo_syntax.specs.declared.refusal.ReadRefusal.{ReadRefusal}
-use Rattle.leo_syntax.specs.declared.refusal.ReadRefusal.TheVariants.{Memory}
-use Rattle.leo_syntax.specs.Rules.{refused}
-use Rattle.leo_top.specs.Problem.{Hypothesis, hypotheses, IsFirstForm}
-use Rattle.leo_top.specs.Formulas.{formulas}
+use Rattle.leo_top.specs.declared.status.Status.TheVariants.{WriteFault, MemoryOut}
+use Rattle.leo_problem.specs.declared.refusal.What.{What}
+use Rattle.leo_problem.specs.Theories.{Theory, says, refused}
+use Rattle.leo_problem.specs.Theories.{Answer as Said}
+use Rattle.leo_problem.specs.Loading.{ProblemOf, IsFault}
+use Rattle.leo_problem.specs.declared.refusal.LoadRefusal.{LoadRefusal}
+use Rattle.leo_problem.specs.declared.refusal.LoadRefusal.TheVariants.{Refused, Memory}
+use Rattle.leo_top.specs.Refusals.{refused_status}
+use Rattle.leo_top.specs.Problem.{Hypothesis, formulas, IsFirstForm}
 use Rattle.leo_top.specs.Pairs.{IsFirstPair}
-use Rattle.leo_top.specs.Refusals.{Refusal, large, lexical, refusal_of, HasTokens, outcome_of, IsRefused, too_large, no_token, no_file, AreStatements}
-use Rattle.leo_top.specs.Answers.{IsMadeOf, AnswersHypotheses, AnswersText, by_pair, refuted_status, by_form, by_refusal, AnswersCall, by_text, SaysNoMemory, IsCommand, IsCut, IsWritten, whole, cut, status_word}
+use Rattle.leo_top.specs.Answers.{IsMadeOf, AnswersHypotheses, AnswersProblem, AnswersCall, IsExcused, by_problem, by_refusal, by_pair, refuted_status, by_form, SaysNoMemory, IsCommand, IsCut, IsWritten, whole, cut, status_word}
 use Rattle.leo_top.specs.Texts.{status_line, refuted_lines, refused_lines}
 
 pub made_weaker : {Fact Other : List (List ℕ) → Type 0} (text : List ℕ) → ((lines : List (List ℕ)) → Fact lines → Other lines) → IsMadeOf Fact text →
@@ -40,68 +35,17 @@ pub answers_weaker : {E : Type 0} (Fact Other : Status → List (List ℕ) → T
 answers_weaker Fact Other (Err e) f m = tt
 answers_weaker Fact Other (Ok a) f m = made_weaker a.text.items (f a.status) m
 
-pub form_answered : (file text : List ℕ) (ss : List Statement) (hs : List Hypothesis) → AreStatements text ss → IsFirstForm ss → hs ≡ hypotheses ss →
-    (s : Status) (lines : List (List ℕ)) → AnswersHypotheses file hs s lines → AnswersText file text s lines
-form_answered file text ss hs read form same s lines h =
-    let P : List Hypothesis → Type 0 = λ us. AnswersHypotheses file us s lines in
-    by_form read form (subst P same h)
+pub form_answered : (file : List ℕ) (t : Theory) (hs : List Hypothesis) → IsFirstForm t hs →
+    (s : Status) (lines : List (List ℕ)) → AnswersHypotheses file t.conjecture hs s lines → AnswersProblem file (says t) s lines
+form_answered file t hs form s lines h = by_form form h
 
 -- a refutation from a pair
-pub pair_made : (file : List ℕ) (hs : List Hypothesis) (a b : ℕ) (asserted denied : Hypothesis) (s : Status) (text : List ℕ) → s ≡ refuted_status hs →
+pub pair_made : (file : List ℕ) (c : Bool) (hs : List Hypothesis) (a b : ℕ) (asserted denied : Hypothesis) (s : Status) (text : List ℕ) → s ≡ refuted_status c →
     IsFirstPair (formulas hs) a b → slice_get hs a ≡ Some asserted → slice_get hs b ≡ Some denied →
-    text ≡ concat (refuted_lines (status_word s) file a asserted b denied) → IsMadeOf (AnswersHypotheses file hs s) text
-pair_made file hs a b asserted denied s text same first x y made =
-    let P : Status → Type 0 = λ t. AnswersHypotheses file hs t (refuted_lines (status_word t) file a asserted b denied) in
+    text ≡ concat (refuted_lines (status_word s) file a asserted b denied) → IsMadeOf (AnswersHypotheses file c hs s) text
+pair_made file c hs a b asserted denied s text same first x y made =
+    let P : Status → Type 0 = λ t. AnswersHypotheses file c hs t (refuted_lines (status_word t) file a asserted b denied) in
     record { lines = _; holds = subst P (sym same) (by_pair first x y); text_is = made }
-
--- an answer that a text is refused
-pub refused_made : {E : Type 0} (Fact : Status → List (List ℕ) → Type 0) (r : Result Answer E) (file : List ℕ) (said refusal : Refusal) → said ≡ refusal →
-    Fact refusal.status (refused_lines (status_word refusal.status) file refusal.byte refusal.words) →
-    IfOk r (λ a. a.status ≡ said.status) → IfOk r (λ a. a.text.items ≡ concat (refused_lines (status_word said.status) file said.byte said.words)) →
-    IfOk r (λ a. IsMadeOf (Fact a.status) a.text.items)
-refused_made Fact r file said refusal same f is made =
-    let P : Refusal → Type 0 = λ x. Fact x.status (refused_lines (status_word x.status) file x.byte x.words) in
-    fixed Fact r said.status _ (subst P (sym same) f) is made
-
--- a text in which no token begins at some byte
-pub tokens_refused : (text : List ℕ) (cause : LexRefusal) (byte : ℕ) → length text ≤ 16777216 → cause ≡ Lexical byte → IsRefusal text cause →
-    IsRefused text (lexical byte)
-tokens_refused text cause byte few is stops = let P : LexRefusal → Type 0 = IsRefusal text in no_token few (subst P is stops)
-
--- a text that the grammar refuses
-pub grammar_refused : (text : List ℕ) (tokens : List Token) (cause : ReadRefusal) (refusal : Refusal) → HasTokens text tokens →
-    (cause ≢ Memory → outcome_of text tokens ≡ refused cause) → Some refusal ≡ refusal_of cause → IsRefused text refusal
-grammar_refused text tokens cause refusal has outcome is = no_file has (outcome (memory_is_none cause refusal is)) (sym is) where
-  memory_is_none : (e : ReadRefusal) (r : Refusal) → Some r ≡ refusal_of e → e ≢ Memory
-  memory_is_none e r k same = let f = k ∙ ap refusal_of same in cc
-
--- some text of more than n bytes, which is the content where that is told
-long_by : (n : ℕ) → (text : List ℕ) × (n < length text)
-long_by n = let e = length-replicate {A = ℕ} n 0 in (replicate (suc n) 0, omega (arith, e))
-
-long_text : (n : ℕ) (told : Option (List ℕ)) → IfSome told (λ content. n < length content) →
-    (text : List ℕ) × IfSome told (λ content. text ≡ content) × (n < length text)
-long_text n None h = let t = long_by n in (t.0, tt, t.1)
-long_text n (Some content) h = (content, refl, h)
-
--- a text that is too long is refused
-pub long_answered : (words : List (List ℕ)) (told : List ℕ → Option (List ℕ)) (CannotRead : List ℕ → Type 0) (file : List ℕ) → IsCommand words file →
-    IfSome (told file) (λ content. 16777216 < length content) →
-    AnswersCall words told CannotRead InputError (refused_lines (status_word InputError) file 0 (codes "large"))
-long_answered words told CannotRead file command h =
-    let t = long_text 16777216 (told file) h in
-    by_text command t.1 (by_refusal {refusal = large} (too_large t.2))
-
--- the text that was fetched into nothing
-pub fetched : (old now told_text : List ℕ) (limit : ℕ) (told : Option (List ℕ)) → old ≡ [] → now ≡ told_text → Appends old now limit told →
-    IfSome told (λ content. told_text ≡ content)
-fetched old now text limit None e same a = tt
-fetched old now text limit (Some content) e same a = sym same ∙ (a.appended ∙ (ap (λ xs. xs ++ a.bytes) e ∙ a.is_told))
-
-pub text_answered : (words : List (List ℕ)) (told : List ℕ → Option (List ℕ)) (CannotRead : List ℕ → Type 0) (file text : List ℕ) → IsCommand words file →
-    IfSome (told file) (λ content. text ≡ content) → (s : Status) (lines : List (List ℕ)) → AnswersText file text s lines →
-    AnswersCall words told CannotRead s lines
-text_answered words told CannotRead file text command is s lines a = by_text command is a
 
 pub commanded : (words : List (List ℕ)) (n : ℕ) (word file : List ℕ) → n ≡ length words → n ≡ 2 → slice_get words 1 ≡ Some word → word ≡ file → IsCommand words file
 commanded words n word file count two named same = record { two = sym count ∙ two; named = named ∙ ap Some same }
@@ -109,8 +53,8 @@ commanded words n word file count two named same = record { two = sym count ∙ 
 pub memory_made : (words : List (List ℕ)) (subject : List ℕ) {E Z : Type 0} (r : Result (Vec ℕ Z) E) →
     SaysNoMemory words (status_line (status_word MemoryOut) subject ∷ []) →
     IfOk r (λ v. v.items ≡ concat (status_line (status_word MemoryOut) subject ∷ [])) → IfOk r (λ v. IsMadeOf (SaysNoMemory words) v.items)
-memory_made words subject (Err e) says made = tt
-memory_made words subject (Ok v) says made = record { lines = _; holds = says; text_is = made }
+memory_made words subject (Err e) said made = tt
+memory_made words subject (Ok v) said made = record { lines = _; holds = said; text_is = made }
 
 -- an answer that was written, by its lines
 pub lines_written : (text : List ℕ) (lines : List (List ℕ)) (before now : Option (List ℕ)) (Failed : Type 0) (due status : Status) → text ≡ concat lines →
@@ -130,3 +74,20 @@ pub cut_with : {text : List ℕ} {before now : Option (List ℕ)} {Failed : Type
 cut_with {text} {before} {now} {Failed} {due} {status} same c f =
     let P : Status → Type 0 = λ s. IsWritten text before now Failed due s in
     subst P (sym same) (cut c f)
+
+-- an answer to what the files of a command's problem say
+pub problem_answered : {words : List (List ℕ)} {told : List ℕ → Option (List ℕ)} {fb fn : ℕ} {failed : Option (List ℕ)} {word file : List ℕ} {a : Said} → IsCommand words file → word ≡ file →
+    ProblemOf told word None a → IsExcused fb fn failed a → (s : Status) (lines : List (List ℕ)) → AnswersProblem file a s lines → AnswersCall words told fb fn failed s lines
+problem_answered {told = told} {a = a} c e p x s lines b = let P : List ℕ → Type 0 = λ f. ProblemOf told f None a in by_problem c (subst P e p) x b
+
+-- an answer to a refusal of a command's problem
+pub refused_answered : {words : List (List ℕ)} {told : List ℕ → Option (List ℕ)} {fb fn : ℕ} {failed : Option (List ℕ)} {word file about shown : List ℕ} {byte : ℕ} {w : What} → IsCommand words file → word ≡ file →
+    (r : LoadRefusal) → r ≡ Refused about byte w → (r ≢ Memory → ProblemOf told word None (refused r)) → IsFault fb fn failed r → shown ≡ about →
+    AnswersCall words told fb fn failed (refused_status w) (refused_lines (status_word (refused_status w)) file shown byte w)
+refused_answered {words} {told} {fb} {fn} {failed} {word} {file} {about} {shown} {byte} {w} c e r q p x s =
+    let no_memory : r ≢ Memory = λ m. (let k : Refused about byte w ≡ Memory = sym q ∙ m in cc) in
+    let P : LoadRefusal → Type 0 = λ u. ProblemOf told word None (refused u) in
+    let Q : LoadRefusal → Type 0 = IsFault fb fn failed in
+    let R : List ℕ → Type 0 = λ f. AnswersCall words told fb fn failed (refused_status w) (refused_lines (status_word (refused_status w)) file f byte w) in
+    let done : R about = problem_answered c e (subst P q (p no_memory)) (subst Q q x) _ _ by_refusal in
+    subst R (sym s) done

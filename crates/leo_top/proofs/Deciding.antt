@@ -2,16 +2,13 @@
 use Rattle.std.proofs.Common.{◌≡◌, ℕ, zero, suc, ◌+◌, ◌<◌, ◌≤◌, Bool, true, false, not, ◌&&◌, ◌||◌, cond, eqb, eq-eqb, List, [], ◌∷◌, length, map, take, drop, get_or, ◌-◌, add-one, Option, Some, None, inl, inr, refl, sym, ap, subst, ◌∙◌, arith}
 use Rattle.std.specs.Option.{option_map, MatchOption}
 use Rattle.std.specs.List.{position, position_or_len, slice_get, list_any}
-use Rattle.std.specs.Str.{bytes_eq}
 use Rattle.std.proofs.lemmas.Bool.{false≢true, cases_lt, ltb-false, eqb-true}
 use Rattle.std.proofs.lemmas.List.{at_drop_more, take_rest}
 use Rattle.std.proofs.lemmas.List.Quantifiers.{position-Some}
 use Rattle.std.proofs.lemmas.List.Sums.{prefix_len_passes}
 use Rattle.std.proofs.lemmas.Option.{MatchOption-at_none, slice_get-map, slice_get_within, slice_get-get_or, get_or_from_slice_get}
-use Rattle.std.proofs.lemmas.Slice.Eq.{bytes_eq-Decides}
-use Rattle.leo_top.specs.declared.hypothesis.Role.TheVariants.{Axiom}
-use Rattle.leo_top.specs.Problem.{Formula, negation, Hypothesis}
-use Rattle.leo_top.specs.Formulas.{formulas}
+use Rattle.leo_problem.specs.declared.roles.Role.TheVariants.{Axiom}
+use Rattle.leo_top.specs.Problem.{Formula, negation, Hypothesis, formulas}
 use Rattle.leo_top.specs.Checks.{is_negation}
 use Rattle.leo_top.specs.Pairs.{IsPair, IsFirstPair, HasNoPair, same_clause, different}
 
@@ -22,20 +19,20 @@ both false b e = absurd (false≢true e)
 abbrev pub formula_of : Hypothesis → Formula
 formula_of h = h.formula
 
-abbrev with_parts : ℕ → List ℕ → Formula
-with_parts n atom = record { negations = n; atom = atom }
+abbrev with_parts : ℕ → ℕ → Formula
+with_parts n symbol = record { negations = n; symbol = symbol }
 
 pub negation_is : (f g : Formula) → is_negation f g ≡ true → g ≡ negation f
 negation_is f g e =
-    let h = both (eqb (suc f.negations) g.negations) (bytes_eq f.atom g.atom) e in
+    let h = both (eqb (suc f.negations) g.negations) (eqb f.symbol g.symbol) e in
     let n = eqb-true (suc f.negations) g.negations h.0 in
-    let p = (bytes_eq-Decides f.atom g.atom).0 h.1 in
-    ap (λ k. with_parts k g.atom) (sym n) ∙ ap (λ a. with_parts (suc f.negations) a) (sym p)
+    let p = eqb-true f.symbol g.symbol h.1 in
+    ap (λ k. with_parts k g.symbol) (sym n) ∙ ap (λ a. with_parts (suc f.negations) a) (sym p)
 
 pub is_negation_so : (f : Formula) → is_negation f (negation f) ≡ true
 is_negation_so f =
     let n = eq-eqb (suc f.negations) (suc f.negations) refl in
-    let p = (bytes_eq-Decides f.atom f.atom).1 refl in
+    let p = eq-eqb f.symbol f.symbol refl in
     rw (n, p) refl
 
 abbrev pub asserting : Formula → Hypothesis → Bool
@@ -53,7 +50,7 @@ passes : (g f : Formula) (h : Hypothesis) → h.formula ≡ f → g ≡ negation
 passes g f h e n = ap (λ k. is_negation k g) e ∙ (ap (is_negation f) n ∙ is_negation_so f)
 
 abbrev nameless : Hypothesis
-nameless = record { name = []; role = Axiom; formula = with_parts 0 [] }
+nameless = record { file = []; name = []; role = Axiom; formula = with_parts 0 0; atom = [] }
 
 -- the hypothesis at that place asserts what the formula denies, and no earlier one does
 pub record IsFirst (hs : List Hypothesis) (g : Formula) (a : ℕ) : Type 0 where

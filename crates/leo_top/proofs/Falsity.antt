@@ -9,8 +9,7 @@ use Rattle.leo_q0.specs.Derivations.{Derives, Derivable, by_hypothesis}
 use Rattle.leo_q0.proofs.Formulas.{HasType-false, HasType-not}
 use Rattle.leo_q0.proofs.Equations.{Equal, back, carry}
 use Rattle.leo_q0.proofs.Lists.{derivation}
-use Rattle.leo_top.specs.Problem.{Formula}
-use Rattle.leo_top.specs.Formulas.{negated, term_of, atom_number}
+use Rattle.leo_top.specs.Problem.{Formula, negated, term_of}
 use Rattle.leo_top.specs.Pairs.{IsPair}
 
 contained : {X : Type 0} (xs : List X) (k : ℕ) (x : X) → slice_get xs k ≡ Some x → Contains xs x
@@ -27,11 +26,11 @@ typed : (n : ℕ) (t : Term) → HasType t truth → HasType (negated n t) truth
 typed zero t h = h
 typed (suc n) t h = of_apply HasType-not (typed n t h)
 
-pub derived : (declared : List (List ℕ)) (fs : List Formula) (a b : ℕ) → IsPair fs a b → Derives (map (term_of declared) fs) false_term
-derived declared fs a b p =
+pub derived : (fs : List Formula) (a b : ℕ) → IsPair fs a b → Derives (map term_of fs) false_term
+derived fs a b p =
     let f = p.formula in
-    let c = term_of declared f in
-    let H = map (term_of declared) fs in
-    let here = slice_get-map (term_of declared) fs a ∙ ap (option_map (term_of declared)) p.asserted in
-    let denied = slice_get-map (term_of declared) fs b ∙ ap (option_map (term_of declared)) p.denied in
-    refuted H c (typed f.negations _ (of_constant (atom_number declared f.atom) truth)) (contained H a c here) (contained H b (apply not_term c) denied)
+    let c = term_of f in
+    let H = map term_of fs in
+    let here = slice_get-map term_of fs a ∙ ap (option_map term_of) p.asserted in
+    let denied = slice_get-map term_of fs b ∙ ap (option_map term_of) p.denied in
+    refuted H c (typed f.negations _ (of_constant f.symbol truth)) (contained H a c here) (contained H b (apply not_term c) denied)

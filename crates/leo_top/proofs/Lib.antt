@@ -1,8 +1,8 @@
-pub mod Among
-mod Atoms
 pub mod Deciding
 pub mod Taking
-pub mod Forms
+pub mod Shapes
+pub mod Formed
 pub mod Falsity
 pub mod Answering
 pub mod Ending
+pub mod Denying

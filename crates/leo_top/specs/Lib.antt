@@ -1,5 +1,4 @@
 pub mod Problem
-pub mod Formulas
 pub mod Pairs
 pub mod Refusals
 pub mod Lines

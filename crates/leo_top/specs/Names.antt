@@ -2,7 +2,7 @@
 use Rattle.std.specs.Prelude.{ℕ, zero, suc, Bool, false, ◌&&◌, ◌||◌, List, [], ◌∷◌, ◌++◌, codes, if◌then◌else◌}
 use Rattle.std.specs.List.{flat_map, list_all}
 use Rattle.leo_lex.specs.Bytes.{is_lower, is_word, is_digit, single_quote}
-use Rattle.leo_top.specs.Problem.{Formula}
+use Rattle.leo_top.specs.Problem.{Hypothesis}
 use Rattle.leo_top.specs.Lines.{escaped}
 
 -- whether this is a lower word: a letter from `a` to `z`, and then letters, digits and `_`
@@ -32,5 +32,6 @@ abbrev pub negated_text : ℕ → List ℕ → List ℕ
 negated_text zero text = text
 negated_text (suc n) text = codes "( ~ " ++ (negated_text n text ++ codes " )")
 
-abbrev pub formula_text : Formula → List ℕ
-formula_text formula = negated_text formula.negations (atom_text formula.atom)
+-- the formula of a hypothesis
+abbrev pub formula_text : Hypothesis → List ℕ
+formula_text h = negated_text h.formula.negations (atom_text h.atom)

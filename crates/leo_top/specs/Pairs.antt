@@ -1,7 +1,6 @@
 -- Formulas of which one is the negation of another, and how many clauses the formulas give.
 use Rattle.std.specs.Prelude.{◌≡◌, ℕ, suc, ◌<◌, ◌≤◌, ◌%◌, ◌⊎◌, Bool, ◌&&◌, ◌==◌, List, [], ◌∷◌, Some, slice_get, if◌then◌else◌}
 use Rattle.std.specs.List.{list_any}
-use Rattle.std.specs.Str.{bytes_eq}
 use Rattle.leo_top.specs.Problem.{Formula, negation}
 
 -- formula b is the negation of formula a
@@ -19,10 +18,10 @@ pub record IsFirstPair (formulas : List Formula) (a b : ℕ) : Type 0 where
 abbrev pub HasNoPair : List Formula → Type 0
 HasNoPair formulas = (a b : ℕ) → ¬ IsPair formulas a b
 
--- whether two formulas give the same clause: an atom behind an even number of negations gives `p = $true`, and
+-- whether two formulas give the same clause: a symbol behind an even number of negations gives `p = $true`, and
 -- behind an odd one `p = $false`
 abbrev pub same_clause : Formula → Formula → Bool
-same_clause f g = ((f.negations % 2) == (g.negations % 2)) && bytes_eq f.atom g.atom
+same_clause f g = ((f.negations % 2) == (g.negations % 2)) && (f.symbol == g.symbol)
 
 -- how many different clauses the formulas give
 abbrev pub different : List Formula → ℕ

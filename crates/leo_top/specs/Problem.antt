@@ -1,117 +1,68 @@
--- Problems of the first form: what the statements of a file declare and assume.
-use Rattle.std.specs.Prelude.{ℕ, suc, ◌≤◌, Bool, false, true, ◌||◌, IsTrue, List, length, codes, count_by, Option, Some, None, if◌then◌else◌}
-use Rattle.std.specs.Option.{option_map, is_some}
-use Rattle.std.specs.List.{Contains, filter_map, list_any}
-use Rattle.std.specs.Str.{bytes_eq}
-use Rattle.leo_syntax.specs.declared.tree.TypeWord.{TypeWord}
-use Rattle.leo_syntax.specs.declared.tree.TypeWord.TheVariants.{Truth}
-use Rattle.leo_syntax.specs.declared.tree.TypeTree.{TypeTree}
-use Rattle.leo_syntax.specs.declared.tree.TypeNode.{TypeNode, out-TypeNode}
-use Rattle.leo_syntax.specs.declared.tree.TypeNode.TheOpen.{TypeNode-F}
-use Rattle.leo_syntax.specs.declared.tree.Tree.{Tree}
-use Rattle.leo_syntax.specs.declared.tree.Node.{Node, out-Node}
-use Rattle.leo_syntax.specs.declared.tree.Node.TheOpen.{Node-F}
-use Rattle.leo_syntax.specs.declared.tree.Statement.{Statement}
-use Rattle.leo_syntax.specs.declared.tree.Statement.TheVariants as statement
-use Rattle.leo_top.specs.declared.hypothesis.Role.{Role}
-use Rattle.leo_top.specs.declared.hypothesis.Role.TheVariants.{Axiom, Conjecture}
+-- Problems of the first form: each hypothesis is a symbol behind a few signs of negation.
+use Rattle.std.specs.Prelude.{◌≡◌, ℕ, zero, suc, nat_eq, ◌≤◌, List, [], ◌∷◌, map, Option, Some, None, if◌then◌else◌}
+use Rattle.leo_q0.specs.Terms.{truth, Term, constant, apply}
+use Rattle.leo_q0.specs.Connectives.{not_term}
+use Rattle.leo_elab.specs.Problem.{Declared, Constant}
+use Rattle.leo_problem.specs.declared.roles.Role.{Role}
+use Rattle.leo_problem.specs.declared.roles.Role.TheVariants as role
+use Rattle.leo_problem.specs.Theories.{Theory}
+use Rattle.leo_problem.specs.Theories as theories
 
--- a formula: an atom behind so many signs of negation
+-- a formula: a symbol behind so many signs of negation
 pub record Formula : Type 0 where
   pub negations : ℕ
-  pub atom : List ℕ
+  pub symbol : ℕ
 
 -- the negation of a formula
 abbrev pub negation : Formula → Formula
-negation f = record { negations = suc f.negations; atom = f.atom }
+negation f = record { negations = suc f.negations; symbol = f.symbol }
 
--- a hypothesis: the name and the role of its statement, and the formula that it assumes
+-- a term of Q0 behind so many signs of negation
+abbrev pub negated : ℕ → Term → Term
+negated zero term = term
+negated (suc n) term = apply not_term (negated n term)
+
+-- the term of a formula: its symbol is a constant of the type of truth values
+abbrev pub term_of : Formula → Term
+term_of formula = negated formula.negations (constant formula.symbol truth)
+
+-- a hypothesis: the file, the name and the role of its statement, the formula that it assumes, and the atom of the symbol
 pub record Hypothesis : Type 0 where
+  pub file : List ℕ
   pub name : List ℕ
   pub role : Role
   pub formula : Formula
+  pub atom : List ℕ
 
--- ---- what a statement says
+-- the formulas of hypotheses, in order
+abbrev pub formulas : List Hypothesis → List Formula
+formulas hs = map (λ h. h.formula) hs
 
--- the formula of an atom
-abbrev pub atom_by : Node-F Node Tree → Option Formula
-atom_by (Node-F.Atom name) = Some (record { negations = 0; atom = name })
-atom_by _ = None
+-- how many signs of negation a hypothesis has at most: one, and one more where a conjecture was negated
+abbrev pub most_negations : Role → ℕ
+most_negations role.Conjecture = 2
+most_negations _ = 1
 
-abbrev pub atom_in : Tree → Option Formula
-atom_in tree = atom_by (out-Node tree.node)
+-- the first atom that is the constant with that number
+abbrev pub atom_of : ℕ → List (List ℕ × Constant) → Option (List ℕ)
+atom_of number [] = None
+atom_of number (c ∷ cs) = if nat_eq c.1.number number then Some c.0 else atom_of number cs
 
--- the formula of an atom, or of the negation of one
-abbrev pub formula_by : Node-F Node Tree → Option Formula
-formula_by (Node-F.Not tree) = option_map negation (atom_in tree)
-formula_by node = atom_by node
+-- what a problem assumes is the formula of the hypothesis
+pub record IsFormed (d : Declared) (t : theories.Hypothesis) (h : Hypothesis) : Type 0 where
+  pub formula_is : t.formula ≡ term_of h.formula
+  pub few_negations : h.formula.negations ≤ most_negations t.role
+  pub atom_is : atom_of h.formula.symbol d.constants ≡ Some h.atom
+  pub file_is : h.file ≡ t.file
+  pub name_is : h.name ≡ t.name
+  pub role_is : h.role ≡ t.role
 
-abbrev pub formula_in : Tree → Option Formula
-formula_in tree = formula_by (out-Node tree.node)
+-- the same of lists
+pub data AreFormed (d : Declared) : List theories.Hypothesis → List Hypothesis → Type 0 where
+  no_more : AreFormed d [] []
+  one_more : {t : theories.Hypothesis} {h : Hypothesis} {ts : List theories.Hypothesis} {hs : List Hypothesis} → IsFormed d t h → AreFormed d ts hs → AreFormed d (t ∷ ts) (h ∷ hs)
 
--- the role of a word
-abbrev pub role_of : List ℕ → Option Role
-role_of word =
-    if bytes_eq word (codes "axiom") then Some Axiom
-    else (if bytes_eq word (codes "conjecture") then Some Conjecture else None)
-
--- what is assumed: an axiom as it stands, the negation of a conjecture
-abbrev pub assumed : Role → Formula → Formula
-assumed Axiom formula = formula
-assumed Conjecture formula = negation formula
-
-abbrev pub hypothesis_by : List ℕ → Option Role → Option Formula → Option Hypothesis
-hypothesis_by name (Some role) (Some formula) = Some (record { name = name; role = role; formula = assumed role formula })
-hypothesis_by name _ _ = None
-
--- the hypothesis of an axiom or a conjecture whose formula is an atom or the negation of one
-unfoldable pub hypothesis_of : Statement → Option Hypothesis
-hypothesis_of (statement.Formula byte name role role_byte tree) = hypothesis_by name (role_of role) (formula_in tree)
-hypothesis_of _ = None
-
-abbrev pub is_truth_word : TypeWord → Bool
-is_truth_word Truth = true
-is_truth_word _ = false
-
-abbrev pub is_truth_by : TypeNode-F TypeNode TypeTree → Bool
-is_truth_by (TypeNode-F.Base word) = is_truth_word word
-is_truth_by _ = false
-
--- whether the type is `$o`
-abbrev pub is_truth : TypeTree → Bool
-is_truth ty = is_truth_by (out-TypeNode ty.node)
-
--- the atom that a type statement declares as a truth value
-unfoldable pub declared_atom : Statement → Option (List ℕ)
-declared_atom (statement.Typing byte name atom atom_byte ty) = if is_truth ty then Some atom else None
-declared_atom _ = None
-
--- whether the statement declares an atom or gives a hypothesis
-unfoldable pub is_part : Statement → Bool
-is_part s = is_some (declared_atom s) || is_some (hypothesis_of s)
-
--- ---- what the statements of a file say together
-
--- the atoms that are declared, in order
-abbrev pub atoms : List Statement → List (List ℕ)
-atoms statements = filter_map declared_atom statements
-
--- the hypotheses, in order
-abbrev pub hypotheses : List Statement → List Hypothesis
-hypotheses statements = filter_map hypothesis_of statements
-
-abbrev pub is_conjecture : Role → Bool
-is_conjecture Axiom = false
-is_conjecture Conjecture = true
-
--- whether one of the hypotheses is a conjecture
-abbrev pub has_conjecture : List Hypothesis → Bool
-has_conjecture hypotheses = list_any (λ h. is_conjecture h.role) hypotheses
-
--- the statements are a problem of the first form: at most 1,000, which declare atoms and give hypotheses alone;
--- the atom of each hypothesis is declared somewhere, and at most one is a conjecture
-pub record IsFirstForm (statements : List Statement) : Type 0 where
-  pub few_statements : length statements ≤ 1000
-  pub parts : (s : Statement) → Contains statements s → IsTrue (is_part s)
-  pub declared : (h : Hypothesis) → Contains (hypotheses statements) h → Contains (atoms statements) h.formula.atom
-  pub one_conjecture : count_by (λ h. is_conjecture h.role) (hypotheses statements) ≤ 1
+-- the problem has the first form: it has at most 1,000 statements, and these are its hypotheses
+pub record IsFirstForm (t : Theory) (hypotheses : List Hypothesis) : Type 0 where
+  pub few_statements : t.statements ≤ 1000
+  pub formed : AreFormed t.declared t.hypotheses hypotheses

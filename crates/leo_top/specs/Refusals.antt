@@ -1,23 +1,11 @@
--- Why the text of a file is refused before its statements are looked at, and which statements it has.
-use Rattle.std.specs.Prelude.{◌≡◌, ℕ, ◌<◌, ◌≤◌, List, length, codes, Option, Some, None}
-use Rattle.leo_lex.specs.Cut.{AreTokens, StopsAt}
-use Rattle.leo_lex.specs.declared.token.Token.{Token}
+-- How it is said why a problem is not loaded.
+use Rattle.std.specs.Prelude.{ℕ, Bool, true, false, List, codes}
 use Rattle.leo_syntax.specs.declared.refusal.Form.{Form}
 use Rattle.leo_syntax.specs.declared.refusal.Form.TheVariants as form
-use Rattle.leo_syntax.specs.declared.refusal.ReadRefusal.{ReadRefusal}
-use Rattle.leo_syntax.specs.declared.refusal.ReadRefusal.TheVariants.{Syntax, Unsupported, Deep, Memory}
-use Rattle.leo_syntax.specs.declared.tree.Statement.{Statement}
-use Rattle.leo_syntax.specs.Grammar.{IsFile}
-use Rattle.leo_syntax.specs.Lexemes.{lexemes}
-use Rattle.leo_syntax.specs.Rules.{Outcome, accepted, refused, file_outcome}
+use Rattle.leo_problem.specs.declared.refusal.What.{What}
+use Rattle.leo_problem.specs.declared.refusal.What.TheVariants as what
 use Rattle.leo_top.specs.declared.status.Status.{Status}
-use Rattle.leo_top.specs.declared.status.Status.TheVariants.{SyntaxError, InputError}
-
--- how a text is refused: with which status, at which byte, and in which words
-pub record Refusal : Type 0 where
-  pub status : Status
-  pub byte : ℕ
-  pub words : List ℕ
+use Rattle.leo_top.specs.declared.status.Status.TheVariants.{SyntaxError, TypeError, InputError, OSError}
 
 -- the words for a form that the language does not have
 abbrev pub form_words : Form → List ℕ
@@ -37,42 +25,39 @@ form_words form.System = codes "unsupported system"
 form_words form.Mark = codes "unsupported mark"
 form_words form.Dialect = codes "unsupported dialect"
 
--- a text of more than 16 MiB
-abbrev pub large : Refusal
-large = record { status = InputError; byte = 0; words = codes "large" }
+-- the words for what is wrong
+abbrev pub cause_words : What → List ℕ
+cause_words what.Includes = codes "includes"
+cause_words what.ReadFault = codes "read fault"
+cause_words what.Large = codes "large"
+cause_words what.Lexical = codes "lexical"
+cause_words what.Deep = codes "deep"
+cause_words (what.Unsupported f) = form_words f
+cause_words what.Syntax = codes "syntax"
+cause_words what.Role = codes "role"
+cause_words what.Conjectures = codes "second conjecture"
+cause_words what.Twice = codes "declared twice"
+cause_words what.Unknown = codes "unknown name"
+cause_words what.WrongType = codes "wrong type"
+cause_words what.Free = codes "free variable"
 
--- a text in which at that byte no token begins
-abbrev pub lexical : ℕ → Refusal
-lexical byte = record { status = SyntaxError; byte = byte; words = codes "lexical" }
+-- the status of a problem in which that is wrong
+abbrev pub refused_status : What → Status
+refused_status what.Includes = InputError
+refused_status what.ReadFault = OSError
+refused_status what.Large = InputError
+refused_status what.Lexical = SyntaxError
+refused_status what.Deep = InputError
+refused_status (what.Unsupported f) = InputError
+refused_status what.Syntax = SyntaxError
+refused_status what.Role = InputError
+refused_status what.Conjectures = InputError
+refused_status what.Twice = TypeError
+refused_status what.Unknown = TypeError
+refused_status what.WrongType = TypeError
+refused_status what.Free = TypeError
 
--- a text that the grammar refuses; want of memory is no refusal of the text
-abbrev pub refusal_of : ReadRefusal → Option Refusal
-refusal_of (Syntax byte) = Some (record { status = SyntaxError; byte = byte; words = codes "syntax" })
-refusal_of (Unsupported byte form) = Some (record { status = InputError; byte = byte; words = form_words form })
-refusal_of (Deep byte) = Some (record { status = InputError; byte = byte; words = codes "deep" })
-refusal_of Memory = None
-
--- the text has at most 16 MiB, and these are its tokens
-pub record HasTokens (text : List ℕ) (tokens : List Token) : Type 0 where
-  pub few_bytes : length text ≤ 16777216
-  pub are_tokens : AreTokens text tokens
-
--- what the table of the grammar makes of a text with these tokens
-abbrev pub outcome_of : List ℕ → List Token → Outcome
-outcome_of text tokens = file_outcome (length text) (lexemes text tokens)
-
--- the text is refused so: as a whole, at the first place where no token begins, or at the first token with which
--- no file goes on
-pub data IsRefused (text : List ℕ) : Refusal → Type 0 where
-  too_large : 16777216 < length text → IsRefused text large
-  no_token : {byte : ℕ} → length text ≤ 16777216 → StopsAt text byte → IsRefused text (lexical byte)
-  no_file : {tokens : List Token} {cause : ReadRefusal} {refusal : Refusal} → HasTokens text tokens →
-      outcome_of text tokens ≡ refused cause → refusal_of cause ≡ Some refusal → IsRefused text refusal
-
--- these are the statements of the text by the grammar, and it has no others
-pub record AreStatements (text : List ℕ) (statements : List Statement) : Type 0 where
-  pub tokens : List Token
-  pub has_tokens : HasTokens text tokens
-  pub taken : outcome_of text tokens ≡ accepted
-  pub grammar : IsFile (lexemes text tokens) statements
-  pub only : (others : List Statement) → IsFile (lexemes text tokens) others → statements ≡ others
+-- whether it is the file as a whole that is refused, and not a byte of it
+abbrev pub is_of_file : What → Bool
+is_of_file what.ReadFault = true
+is_of_file _ = false

@@ -1,11 +1,14 @@
 -- The texts of the answers.
 use Rattle.std.specs.Prelude.{ℕ, nat_lt, List, [], ◌∷◌, ◌++◌, codes, decimal, if◌then◌else◌}
 use Rattle.std.specs.List.{concat}
-use Rattle.leo_top.specs.declared.hypothesis.Role.{Role}
-use Rattle.leo_top.specs.declared.hypothesis.Role.TheVariants.{Axiom, Conjecture}
+use Rattle.leo_problem.specs.declared.roles.Role.{Role}
+use Rattle.leo_problem.specs.declared.roles.Role.TheVariants as role
+use Rattle.leo_problem.specs.declared.refusal.What.{What}
+use Rattle.leo_problem.specs.Roles.{role_word}
 use Rattle.leo_top.specs.Problem.{Hypothesis}
 use Rattle.leo_top.specs.Lines.{shown, quoted, line}
 use Rattle.leo_top.specs.Names.{name_text, formula_text}
+use Rattle.leo_top.specs.Refusals.{cause_words, is_of_file}
 
 -- the status line: the status, and the file or the program that it is for
 unfoldable pub status_line : List ℕ → List ℕ → List ℕ
@@ -33,29 +36,29 @@ turns_line turns = line (codes "% leo3: no clause left after " ∷ decimal turns
 unfoldable pub source_text : List ℕ → List ℕ → List ℕ
 source_text file name = concat (codes "file('" ∷ quoted file ∷ codes "'," ∷ name_text name ∷ codes ")" ∷ [])
 
--- hypothesis of that number, an axiom
-unfoldable pub axiom_line : List ℕ → ℕ → Hypothesis → List ℕ
-axiom_line file number h =
-    line (codes "thf(h" ∷ decimal number ∷ codes ",axiom," ∷ formula_text h.formula ∷ codes "," ∷ source_text file h.name ∷ codes ")." ∷ [])
+-- hypothesis of that number, which stands in its file
+unfoldable pub given_line : ℕ → Hypothesis → List ℕ
+given_line number h =
+    line (codes "thf(h" ∷ decimal number ∷ codes "," ∷ role_word h.role ∷ codes "," ∷ formula_text h ∷ codes "," ∷ source_text h.file h.name ∷ codes ")." ∷ [])
 
 -- hypothesis of that number, the negated conjecture
-unfoldable pub conjecture_line : List ℕ → ℕ → Hypothesis → List ℕ
-conjecture_line file number h =
-    line (codes "thf(h" ∷ decimal number ∷ codes ",negated_conjecture," ∷ formula_text h.formula ∷ codes ",inference(negate,[status(cth)],[" ∷ source_text file h.name ∷ codes "]))." ∷ [])
+unfoldable pub conjecture_line : ℕ → Hypothesis → List ℕ
+conjecture_line number h =
+    line (codes "thf(h" ∷ decimal number ∷ codes ",negated_conjecture," ∷ formula_text h ∷ codes ",inference(negate,[status(cth)],[" ∷ source_text h.file h.name ∷ codes "]))." ∷ [])
 
-abbrev pub line_by : Role → List ℕ → ℕ → Hypothesis → List ℕ
-line_by Axiom file number h = axiom_line file number h
-line_by Conjecture file number h = conjecture_line file number h
+abbrev pub line_by : Role → ℕ → Hypothesis → List ℕ
+line_by role.Conjecture number h = conjecture_line number h
+line_by _ number h = given_line number h
 
 -- hypothesis of that number
-abbrev pub hypothesis_line : List ℕ → ℕ → Hypothesis → List ℕ
-hypothesis_line file number h = line_by h.role file number h
+abbrev pub hypothesis_line : ℕ → Hypothesis → List ℕ
+hypothesis_line number h = line_by h.role number h
 
 -- the two hypotheses, by number
-abbrev pub hypothesis_lines : List ℕ → ℕ → Hypothesis → ℕ → Hypothesis → List (List ℕ)
-hypothesis_lines file a asserted b denied =
-    if nat_lt a b then hypothesis_line file a asserted ∷ hypothesis_line file b denied ∷ []
-    else hypothesis_line file b denied ∷ hypothesis_line file a asserted ∷ []
+abbrev pub hypothesis_lines : ℕ → Hypothesis → ℕ → Hypothesis → List (List ℕ)
+hypothesis_lines a asserted b denied =
+    if nat_lt a b then hypothesis_line a asserted ∷ hypothesis_line b denied ∷ []
+    else hypothesis_line b denied ∷ hypothesis_line a asserted ∷ []
 
 -- the steps that take hypothesis a, the formula of that text, and hypothesis b, its negation, as clauses
 unfoldable pub asserted_line : ℕ → List ℕ → List ℕ
@@ -90,7 +93,7 @@ step_lines a b formula =
 -- the output lines, with the derivation of falsity from hypothesis a and hypothesis b, the negation of it
 abbrev pub output_lines : List ℕ → ℕ → Hypothesis → ℕ → Hypothesis → List (List ℕ)
 output_lines file a asserted b denied =
-    start_line file ∷ (hypothesis_lines file a asserted b denied ++ (step_lines a b (formula_text asserted.formula) ++ end_line file ∷ []))
+    start_line file ∷ (hypothesis_lines a asserted b denied ++ (step_lines a b (formula_text asserted) ++ end_line file ∷ []))
 
 -- the lines of a refutation
 abbrev pub refuted_lines : List ℕ → List ℕ → ℕ → Hypothesis → ℕ → Hypothesis → List (List ℕ)
@@ -100,10 +103,14 @@ refuted_lines word file a asserted b denied = status_line word file ∷ output_l
 abbrev pub exhausted_lines : List ℕ → List ℕ → ℕ → List (List ℕ)
 exhausted_lines word file turns = status_line word file ∷ turns_line turns ∷ []
 
--- the lines of a file that is refused as a whole or cannot be read
+-- the lines of a file with a line on it
 abbrev pub noted_lines : List ℕ → List ℕ → List ℕ → List (List ℕ)
 noted_lines word file words = status_line word file ∷ file_line file words ∷ []
 
--- the lines of a file that is refused at a byte
-abbrev pub refused_lines : List ℕ → List ℕ → ℕ → List ℕ → List (List ℕ)
-refused_lines word file byte words = status_line word file ∷ byte_line file byte words ∷ []
+-- the line on a file in which that is wrong, at that byte
+abbrev pub cause_line : List ℕ → ℕ → What → List ℕ
+cause_line about byte w = if is_of_file w then file_line about (cause_words w) else byte_line about byte (cause_words w)
+
+-- the lines of a problem that is refused, with the file in which that is wrong
+abbrev pub refused_lines : List ℕ → List ℕ → List ℕ → ℕ → What → List (List ℕ)
+refused_lines word file about byte w = status_line word file ∷ cause_line about byte w ∷ []

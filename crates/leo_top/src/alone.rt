@@ -1,7 +1,10 @@
 //! The call that answers a command.
-ghost use Rattle.std.specs.Prelude.{◌≡◌, ◌⊎◌, ℕ, List, [], ◌∷◌, length, codes, true, false, IfOk, slice_get, Some};
+ghost use Rattle.std.specs.Prelude.{◌≡◌, ◌⊎◌, ℕ, List, [], ◌∷◌, length, codes, true, false, IfOk, None};
 ghost use Rattle.std.specs.List.{concat};
 ghost use Rattle.leo_edge.specs.Outside.{HasRisen};
+ghost use Rattle.leo_problem.specs.Laws.{AreTold, IsUnread};
+ghost use Rattle.leo_problem.specs.Loading.{ProblemOf};
+ghost use Rattle.leo_problem.specs.Theories.{Answer};
 ghost use Rattle.leo_top.specs.Answers as answers;
 ghost use Rattle.leo_top.specs.Texts.{status_line};
 
@@ -11,6 +14,7 @@ use crate::status::Status;
 use crate::texts::add_status;
 use crate::writing::put_text;
 use leo_edge::{Files, Sink, Words};
+use leo_problem::laws::problems_are_unique;
 use std::alloc::{AllocError, Global};
 
 /// What a call ended with: its status, and the exit code of a program that ends so.
@@ -77,7 +81,7 @@ fn without_memory<O: Sink>(alloc: Global, words: &Words, out: &mut O) -> Alone
 // Answers the words, and puts the answer.
 fn answered<F: Files, O: Sink>(alloc: Global, words: &Words, files: &mut F, out: &mut O) -> Alone
     ensures code { result.code ≡ answers.code_of result.status }
-    ensures answer { answers.IsAnswered words.now (F.content files.old) (λ file. HasRisen (F.faults files.old) (F.faults files.new) × (F.failed files.new ≡ Some file)) (O.taken out.old) (O.taken out.new) (HasRisen (O.faults out.old) (O.faults out.new)) result.status }
+    ensures answer { answers.IsAnswered words.now (F.content files.old) (F.faults files.old) (F.faults files.new) (F.failed files.new) (O.taken out.old) (O.taken out.new) (HasRisen (O.faults out.old) (O.faults out.new)) result.status }
 {
     match answer_words(alloc, words, files) {
         Ok(answer) => written(out, answer.status, &answer.text),
@@ -85,14 +89,16 @@ fn answered<F: Files, O: Sink>(alloc: Global, words: &Words, files: &mut F, out:
     }
 }
 
-/// Answers the words of a command: reads the file that they name, and puts the answer line by line.
+/// Answers the words of a command: loads the problem that they name, and puts the answer line by line.
 ///
-/// The words are the program's name and the file. A problem of the first form gives a derivation exactly where
-/// one of its hypotheses is the negation of another, as `Theorem` where there is a conjecture and as
-/// `Unsatisfiable` where there is none, and else `GaveUp`. A text that is refused at a byte is a `SyntaxError` or
-/// an `InputError`, and so is one that the prover does not take. Other words are a `UsageError`. `OSError` comes
-/// only where the files' count of faults rose, `WriteFault` only where the sink's did, and `MemoryOut` for want of
-/// memory.
+/// The words are the program's name and the problem's file. A problem has the first form where it has at
+/// most 1,000 statements and each hypothesis is a symbol or the negation of one; that of a conjecture is
+/// negated once more. Such a problem gives a derivation exactly where one of its hypotheses is the
+/// negation of another, as `Theorem` where there is a conjecture and as `Unsatisfiable` where there is
+/// none, and else `GaveUp`. A problem that is refused is a `SyntaxError`, a `TypeError` or an
+/// `InputError`, and one of another form an `InputError`. Other words are a `UsageError`. `OSError` comes
+/// only where the files' count of faults rose, `WriteFault` only where the sink's did, and `MemoryOut`
+/// for want of memory.
 pub fn leo3_alone<F: Files, O: Sink>(
     alloc: Global,
     words: &Words,
@@ -101,24 +107,26 @@ pub fn leo3_alone<F: Files, O: Sink>(
 ) -> Alone
     ensures code { result.code ≡ answers.code_of result.status }
 
-    // The bytes put are those of the answer to these words and this file, or a part of them.
-    ensures answer { answers.IsAnswered words.now (F.content files.old) (λ file. HasRisen (F.faults files.old) (F.faults files.new) × (F.failed files.new ≡ Some file)) (O.taken out.old) (O.taken out.new) (HasRisen (O.faults out.old) (O.faults out.new)) result.status }
+    // The bytes put are those of the answer to these words and these files, or a part of them.
+    ensures answer { answers.IsAnswered words.now (F.content files.old) (F.faults files.old) (F.faults files.new) (F.failed files.new) (O.taken out.old) (O.taken out.new) (HasRisen (O.faults out.old) (O.faults out.new)) result.status }
 
-    // Where the content is told, the answer to it is given, unless a fault stands in the way.
-    ensures exact { (file text : List ℕ) (status : Status) (lines : List (List ℕ)) → answers.IsCommand words.now file → F.content files.old file ≡ Some text → answers.AnswersText file text status lines → answers.IsGiven (concat lines) (O.taken out.old) (O.taken out.new) status result.status ⊎ answers.IsFault result.status }
+    // Where the contents of all files that may be asked for are told, the answer to what they say is given, unless a
+    // fault stands in the way.
+    ensures exact { (file : List ℕ) (said : Answer) (status : Status) (lines : List (List ℕ)) → answers.IsCommand words.now file → AreTold (F.content files.old) file None → ProblemOf (F.content files.old) file None said → ¬ IsUnread said → answers.AnswersProblem file said status lines → answers.IsGiven (concat lines) (O.taken out.old) (O.taken out.new) status result.status ⊎ answers.IsFault result.status }
 
     // A theorem's conjecture follows: with its negation, falsity is derivable.
     ensures theorem { result.status ≡ Status.Theorem → answers.IsRefutable words.now (F.content files.old) true }
 
-    // Without a conjecture, falsity is derivable from the axioms.
+    // Without a conjecture, falsity is derivable from what is assumed.
     ensures unsatisfiable { result.status ≡ Status.Unsatisfiable → answers.IsRefutable words.now (F.content files.old) false }
 
     // Each other cause.
     ensures usage { result.status ≡ Status.UsageError → ¬ (length words.now ≡ 2) }
     ensures no_command { ¬ (length words.now ≡ 2) → (result.status ≡ Status.UsageError) ⊎ answers.IsFault result.status }
-    ensures read_fault { result.status ≡ Status.OSError → (HasRisen (F.faults files.old) (F.faults files.new) × (F.failed files.new ≡ slice_get words.now 1)) }
+    ensures read_fault { result.status ≡ Status.OSError → answers.IsUnreadable words.now (F.content files.old) (F.faults files.old) (F.faults files.new) (F.failed files.new) }
     ensures write_fault { result.status ≡ Status.WriteFault → HasRisen (O.faults out.old) (O.faults out.new) }
 {
+    problems_are_unique();
     answers_are_unique();
     answered(alloc, words, files, out)
 }

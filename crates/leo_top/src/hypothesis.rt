@@ -1,52 +1,33 @@
-//! Hypotheses of a problem, and their formulas.
+//! Hypotheses of a problem of the first form, and their formulas.
 
+use leo_problem::Role;
+use leo_terms::SymId;
 use std::marker::Model;
 
-/// The role of a statement that gives a hypothesis.
-#[derive(Clone, Copy, Debug, PartialEq, Eq)]
-pub enum Role {
-    /// It assumes its formula.
-    Axiom,
-    /// It assumes the negation of its formula.
-    Conjecture,
-}
-
-impl Role {
-    ghost use Rattle.std.specs.Prelude.{◌≡◌};
-    ghost use Rattle.leo_top.specs.Problem.{is_conjecture};
-
-    /// Whether this is the role of a conjecture.
-    pub fn is_conjecture(self) -> bool
-        ensures { result ≡ is_conjecture self }
-    {
-        match self {
-            Role::Axiom => false,
-            Role::Conjecture => true,
-        }
-    }
-}
-
-/// A formula: an atom behind so many signs of negation.
+/// A formula: a symbol behind so many signs of negation.
 #[derive(Drop)]
-pub struct Formula<'a> {
+pub struct Formula {
     pub negations: usize,
-    pub atom: &'a [u8],
+    pub symbol: SymId,
 }
 
-impl<'a> Model for Formula<'a> {
+impl Model for Formula {
     ghost use Rattle.leo_top.specs.Problem.{Formula as FormulaValue};
 
     ghost Value = { FormulaValue };
 
-    ghost view = { λ f. record { negations = f.negations; atom = f.atom.now } };
+    ghost view = { λ f. record { negations = f.negations; symbol = f.symbol } };
 }
 
-/// A hypothesis: the name and the role of its statement, and the formula that it assumes.
+/// A hypothesis: the file, the name and the role of its statement, the formula that it assumes, and
+/// the atom of the formula's symbol.
 #[derive(Drop)]
 pub struct Hypothesis<'a> {
+    pub file: &'a [u8],
     pub name: &'a [u8],
     pub role: Role,
-    pub formula: Formula<'a>,
+    pub formula: Formula,
+    pub atom: &'a [u8],
 }
 
 impl<'a> Model for Hypothesis<'a> {
@@ -54,5 +35,5 @@ impl<'a> Model for Hypothesis<'a> {
 
     ghost Value = { HypothesisValue };
 
-    ghost view = { λ h. record { name = h.name.now; role = h.role; formula = h.formula } };
+    ghost view = { λ h. record { file = h.file.now; name = h.name.now; role = h.role; formula = h.formula; atom = h.atom.now } };
 }

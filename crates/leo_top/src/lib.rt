@@ -3,12 +3,13 @@
 
 mod alone;
 mod answer;
+mod first_form;
 mod hypothesis;
 pub mod laws;
 mod lines;
 mod names;
+mod negations;
 mod pairs;
-mod problem;
 mod refusal;
 mod status;
 #[cfg(test)]

@@ -4,7 +4,7 @@ ghost use Rattle.std.specs.List.{list_all};
 ghost use Rattle.leo_lex.specs.Bytes as bytes;
 ghost use Rattle.leo_top.specs.Names as names;
 
-use crate::hypothesis::Formula;
+use crate::hypothesis::Hypothesis;
 use crate::lines::add_escaped;
 use std::alloc::{AllocError, Global};
 
@@ -93,12 +93,12 @@ fn negated(alloc: Global, text: &[u8]) -> Result<Vec<u8>, AllocError>
     Ok(negated)
 }
 
-/// A formula as it is written, with a sign and brackets for each negation.
-pub fn formula_text(alloc: Global, formula: &Formula<'_>) -> Result<Vec<u8>, AllocError>
-    ensures { IfOk result (λ v. v.items ≡ names.formula_text formula.now) }
+/// The formula of a hypothesis as it is written, with a sign and brackets for each negation.
+pub fn formula_text(alloc: Global, hypothesis: &Hypothesis<'_>) -> Result<Vec<u8>, AllocError>
+    ensures { IfOk result (λ v. v.items ≡ names.formula_text hypothesis.now) }
 {
-    let mut text = atom_text(alloc, formula.atom)?;
-    for _sign in 0..formula.negations {
+    let mut text = atom_text(alloc, hypothesis.atom)?;
+    for _sign in 0..hypothesis.formula.negations {
         text = negated(alloc, &text)?;
     }
     Ok(text)

@@ -2,7 +2,7 @@
 ghost use Rattle.std.specs.Prelude.{◌≡◌, ℕ, MatchOption, IfSome, ◌<◌, ◌≤◌, length};
 ghost use Rattle.std.specs.List.{position, list_any};
 ghost use Rattle.leo_top.specs.Checks.{is_negation};
-ghost use Rattle.leo_top.specs.Formulas.{formulas};
+ghost use Rattle.leo_top.specs.Problem.{formulas};
 ghost use Rattle.leo_top.specs.Pairs as pairs;
 
 use crate::hypothesis::{Formula, Hypothesis};
@@ -15,16 +15,16 @@ pub struct Pair {
 }
 
 // Whether the second formula is the negation of the first.
-fn is_negation(first: &Formula<'_>, second: &Formula<'_>) -> bool
+fn is_negation(first: &Formula, second: &Formula) -> bool
     ensures { result ≡ is_negation first.now second.now }
 {
     first.negations < second.negations
         && second.negations - first.negations == 1
-        && first.atom == second.atom
+        && first.symbol == second.symbol
 }
 
 // The number of the first hypothesis whose negation is the formula.
-fn asserting(hypotheses: &[Hypothesis<'_>], formula: &Formula<'_>) -> Option<usize>
+fn asserting(hypotheses: &[Hypothesis<'_>], formula: &Formula) -> Option<usize>
     ensures { result ≡ position (λ h. is_negation h.formula formula.now) hypotheses.now }
 {
     hypotheses
@@ -55,10 +55,10 @@ pub fn first_pair(hypotheses: &[Hypothesis<'_>]) -> Option<Pair>
 }
 
 // Whether both formulas give the same clause.
-fn same_clause(first: &Formula<'_>, second: &Formula<'_>) -> bool
+fn same_clause(first: &Formula, second: &Formula) -> bool
     ensures { result ≡ pairs.same_clause first.now second.now }
 {
-    first.negations % 2 == second.negations % 2 && first.atom == second.atom
+    first.negations % 2 == second.negations % 2 && first.symbol == second.symbol
 }
 
 // Whether one of the hypotheses gives the same clause.

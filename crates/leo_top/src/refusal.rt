@@ -1,26 +1,10 @@
-//! Why the text of a file is refused before its statements are looked at.
+//! How it is said why a problem is not loaded.
 ghost use Rattle.std.specs.Prelude.{◌≡◌};
 ghost use Rattle.leo_top.specs.Refusals as refusals;
 
 use crate::status::Status;
-use leo_syntax::{Form, ReadRefusal};
-use std::marker::Model;
-
-/// How a text is refused: with which status, at which byte, and in which words.
-#[derive(Drop)]
-pub struct Refusal {
-    pub status: Status,
-    pub byte: u32,
-    pub words: &'static [u8],
-}
-
-impl Model for Refusal {
-    ghost use Rattle.leo_top.specs.Refusals.{Refusal as RefusalValue};
-
-    ghost Value = { RefusalValue };
-
-    ghost view = { λ r. record { status = r.status; byte = r.byte; words = r.words.now } };
-}
+use leo_problem::What;
+use leo_syntax::Form;
 
 fn form_words(form: Form) -> &'static [u8]
     ensures { result.now ≡ refusals.form_words form }
@@ -44,50 +28,43 @@ fn form_words(form: Form) -> &'static [u8]
     }
 }
 
-impl Refusal {
-    /// The refusal of a text of more than 16 MiB.
-    pub fn large() -> Refusal
-        ensures { result ≡ refusals.large }
-    {
-        Refusal {
-            status: Status::InputError,
-            byte: 0,
-            words: b"large",
-        }
+/// The words for what is wrong.
+pub fn cause_words(what: What) -> &'static [u8]
+    ensures { result.now ≡ refusals.cause_words what }
+{
+    match what {
+        What::Includes => b"includes",
+        What::ReadFault => b"read fault",
+        What::Large => b"large",
+        What::Lexical => b"lexical",
+        What::Deep => b"deep",
+        What::Unsupported(form) => form_words(form),
+        What::Syntax => b"syntax",
+        What::Role => b"role",
+        What::Conjectures => b"second conjecture",
+        What::Twice => b"declared twice",
+        What::Unknown => b"unknown name",
+        What::WrongType => b"wrong type",
+        What::Free => b"free variable",
     }
+}
 
-    /// The refusal of a text in which at that byte no token begins.
-    pub fn lexical(byte: u32) -> Refusal
-        ensures { result ≡ refusals.lexical byte }
-    {
-        Refusal {
-            status: Status::SyntaxError,
-            byte,
-            words: b"lexical",
-        }
+/// The status of a problem in which that is wrong.
+pub fn refused_status(what: What) -> Status
+    ensures { result ≡ refusals.refused_status what }
+{
+    match what {
+        What::ReadFault => Status::OSError,
+        What::Lexical | What::Syntax => Status::SyntaxError,
+        What::Twice | What::Unknown | What::WrongType | What::Free => Status::TypeError,
+        What::Includes | What::Large | What::Deep | What::Unsupported(_) => Status::InputError,
+        What::Role | What::Conjectures => Status::InputError,
     }
+}
 
-    /// The refusal of a text that the grammar refuses so; None for want of memory.
-    pub fn of_grammar(cause: ReadRefusal) -> Option<Refusal>
-        ensures { result ≡ refusals.refusal_of cause }
-    {
-        match cause {
-            ReadRefusal::Syntax { byte } => Some(Refusal {
-                status: Status::SyntaxError,
-                byte,
-                words: b"syntax",
-            }),
-            ReadRefusal::Unsupported { byte, form } => Some(Refusal {
-                status: Status::InputError,
-                byte,
-                words: form_words(form),
-            }),
-            ReadRefusal::Deep { byte } => Some(Refusal {
-                status: Status::InputError,
-                byte,
-                words: b"deep",
-            }),
-            ReadRefusal::Memory => None,
-        }
-    }
+/// Whether it is the file as a whole that is refused, and not a byte of it.
+pub fn is_of_file(what: What) -> bool
+    ensures { result ≡ refusals.is_of_file what }
+{
+    matches!(what, What::ReadFault)
 }

@@ -11,6 +11,8 @@ pub enum Status {
     GaveUp,
     /// The file is no text of the language.
     SyntaxError,
+    /// What the file says is not well typed.
+    TypeError,
     /// The file is no problem that the prover takes.
     InputError,
     /// The words are no command.
@@ -36,6 +38,7 @@ impl Status {
             Status::Unsatisfiable => 0,
             Status::GaveUp => 1,
             Status::SyntaxError => 2,
+            Status::TypeError => 2,
             Status::InputError => 2,
             Status::UsageError => 3,
             Status::OSError => 4,
@@ -53,6 +56,7 @@ impl Status {
             Status::Unsatisfiable => b"Unsatisfiable",
             Status::GaveUp => b"GaveUp",
             Status::SyntaxError => b"SyntaxError",
+            Status::TypeError => b"TypeError",
             Status::InputError => b"InputError",
             Status::UsageError => b"UsageError",
             Status::OSError => b"OSError",

@@ -184,11 +184,10 @@ fn refused_files(rt: HostRuntime) -> Result<(), Fail> {
             Status::InputError,
             b"% SZS status InputError for p.p\n% leo3: p.p: byte 12: unsupported number\n",
         ),
-        // Its atom has no type statement.
         refusal(
             b"thf(a,axiom,p).",
-            Status::InputError,
-            b"% SZS status InputError for p.p\n% leo3: p.p: form not built\n",
+            Status::TypeError,
+            b"% SZS status TypeError for p.p\n% leo3: p.p: byte 12: unknown name\n",
         ),
         refusal(
             b"thf(t,type,p: $o).thf(a,axiom,~ ~ p).",
@@ -293,5 +292,109 @@ fn files_and_sinks_that_fail(rt: HostRuntime) -> Result<(), Fail> {
     assert_eq!(rt; alone.code, 4);
     let fault = b"% SZS status OSError for p.p\n% leo3: p.p: read fault\n";
     assert_eq!(rt; third.taken.as_slice(), fault.as_slice());
+    Ok(())
+}
+
+#[test]
+fn problems_that_are_refused(rt: HostRuntime) -> Result<(), Fail> {
+    let rows = [
+        refusal(
+            b"thf(a,conjecture,$true).thf(b,conjecture,$true).",
+            Status::InputError,
+            b"% SZS status InputError for p.p\n% leo3: p.p: byte 24: second conjecture\n",
+        ),
+        refusal(
+            b"thf(a,axiom,X).",
+            Status::TypeError,
+            b"% SZS status TypeError for p.p\n% leo3: p.p: byte 12: free variable\n",
+        ),
+        refusal(
+            b"thf(a,axiom,p).thf(b,plain,$true).",
+            Status::InputError,
+            b"% SZS status InputError for p.p\n% leo3: p.p: byte 21: role\n",
+        ),
+        refusal(
+            b"thf(a,type,p:$o).thf(b,type,p:$i).",
+            Status::TypeError,
+            b"% SZS status TypeError for p.p\n% leo3: p.p: byte 28: declared twice\n",
+        ),
+        refusal(
+            b"thf(a,type,k:$i).thf(b,axiom,k).",
+            Status::TypeError,
+            b"% SZS status TypeError for p.p\n% leo3: p.p: byte 29: wrong type\n",
+        ),
+        // `$true` is no symbol.
+        refusal(
+            b"thf(a,axiom,$true).",
+            Status::InputError,
+            b"% SZS status InputError for p.p\n% leo3: p.p: form not built\n",
+        ),
+    ];
+    for row in rows.iter() {
+        is_answered(&rt, rt.alloc(), row.problem, row)?;
+    }
+    Ok(())
+}
+
+/// Includes the axioms of another file.
+const INCLUDING: &[u8] = b"include('p.ax').thf(c,conjecture,~ q).";
+
+/// Declares q after its use, and assumes its negation.
+const INCLUDED: &[u8] = b"thf(h,lemma,~ q).thf(t,type,q:$o).";
+
+/// The answer to that problem in the folder `w`.
+const INCLUDING_REFUTED: &[u8] = b"% SZS status Theorem for w/p.p
+% SZS output start Refutation for w/p.p
+thf(h0,lemma,( ~ q ),file('w/p.ax',h)).
+thf(h1,negated_conjecture,( ~ ( ~ q ) ),inference(negate,[status(cth)],[file('w/p.p',c)])).
+thf(l0,plain,( ( ~ q ) = $true ),inference(axiom,[status(thm),ev(0)],[h0])).
+thf(l1,plain,( ( ~ ( ~ q ) ) = $true ),inference(axiom,[status(thm),ev(1)],[h1])).
+thf(l2,plain,( ( ~ q ) = $false ),inference(logic,[status(thm),ev(0,not)],[l1])).
+thf(l3,plain,( ( $true = $false ) | ( ( ~ q ) != ( ~ q ) ) ),inference(para,[status(thm),ev(0,left,0,left,[])],[l0,l2])).
+thf(l4,plain,( ( ~ q ) != ( ~ q ) ),inference(drop,[status(thm),ev(0)],[l3])).
+thf(l5,plain,$false,inference(drop,[status(thm),ev(0)],[l4])).
+% SZS output end Refutation for w/p.p
+";
+
+#[test]
+fn includes(rt: HostRuntime) -> Result<(), Fail> {
+    let words = command(rt.alloc(), &["leo3", "w/p.p"])?;
+    let mut files = MemFiles::new(rt.alloc());
+    files.add("w/p.p", INCLUDING)?;
+
+    // The file of the include is missing.
+    let mut out = MemSink::new(rt.alloc());
+    let alone = leo3_alone(rt.alloc(), &words, &mut files, &mut out);
+    assert_eq!(rt; alone.status, Status::OSError);
+    let missing = b"% SZS status OSError for w/p.p\n% leo3: w/p.ax: read fault\n";
+    assert_eq!(rt; out.taken.as_slice(), missing.as_slice());
+
+    files.add("w/p.ax", INCLUDED)?;
+    let mut out = MemSink::new(rt.alloc());
+    let alone = leo3_alone(rt.alloc(), &words, &mut files, &mut out);
+    assert_eq!(rt; alone.status, Status::Theorem);
+    assert_eq!(rt; out.taken.as_slice(), INCLUDING_REFUTED);
+    Ok(())
+}
+
+#[test]
+fn equations_with_falsity_are_negations(rt: HostRuntime) -> Result<(), Fail> {
+    let rows = [
+        Row {
+            problem: b"thf(t,type,p:$o).thf(a,axiom,$false = p).thf(b,axiom,~ p).",
+            status: Status::GaveUp,
+            code: 1,
+            answer: b"% SZS status GaveUp for p.p\n% leo3: no clause left after 1 turns\n",
+        },
+        Row {
+            problem: b"thf(t,type,p:$o).thf(a,axiom,( ! [X: $o] : X ) = p).thf(b,axiom,( ( ^ [X: $o] : $true ) = ( ^ [X: $o] : X ) ) = p).",
+            status: Status::GaveUp,
+            code: 1,
+            answer: b"% SZS status GaveUp for p.p\n% leo3: no clause left after 1 turns\n",
+        },
+    ];
+    for row in rows.iter() {
+        is_answered(&rt, rt.alloc(), row.problem, row)?;
+    }
     Ok(())
 }

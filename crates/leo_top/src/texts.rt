@@ -4,11 +4,13 @@ ghost use Rattle.std.specs.List.{concat};
 ghost use Rattle.leo_top.specs.Answers.{status_word};
 ghost use Rattle.leo_top.specs.Texts as texts;
 
-use crate::hypothesis::{Hypothesis, Role};
+use crate::hypothesis::Hypothesis;
 use crate::lines::{add_line, add_parts, quoted, shown};
 use crate::names::{formula_text, name_text};
+use crate::refusal::{cause_words, is_of_file};
 use crate::status::Status;
 use itoa::Buffer;
+use leo_problem::{Role, What};
 use std::alloc::{AllocError, Global};
 
 /// Appends the status line.
@@ -39,9 +41,9 @@ pub fn add_note(
     add_line(text, &[b"% leo3: ", &file, b": ", words])
 }
 
-/// Appends a line on a byte of the file.
+// Appends a line on a byte of the file.
 #[tactic(auto, unfolding(crate::specs::Texts::byte_line))]
-pub fn add_byte_note(
+fn add_byte_note(
     alloc: Global,
     text: &mut Vec<u8>,
     file: &[u8],
@@ -54,6 +56,23 @@ pub fn add_byte_note(
     let byte = buffer.format(byte).as_bytes();
     let file = shown(alloc, file)?;
     add_line(text, &[b"% leo3: ", &file, b": byte ", byte, b": ", words])
+}
+
+/// Appends the line on a file in which that is wrong, at that byte.
+pub fn add_cause(
+    alloc: Global,
+    text: &mut Vec<u8>,
+    about: &[u8],
+    byte: u32,
+    what: What,
+) -> Result<(), AllocError>
+    ensures { OnOk result (text.new.items ≡ text.old.items ++ texts.cause_line about.now byte what) }
+{
+    if is_of_file(what) {
+        add_note(alloc, text, about, cause_words(what))
+    } else {
+        add_byte_note(alloc, text, about, byte, cause_words(what))
+    }
 }
 
 /// Appends the line on the end of the clauses.
@@ -94,24 +113,33 @@ fn source_text(alloc: Global, file: &[u8], name: &[u8]) -> Result<Vec<u8>, Alloc
     Ok(text)
 }
 
-// Appends the hypothesis of that number, an axiom.
-#[tactic(auto, unfolding(crate::specs::Texts::axiom_line))]
-fn add_axiom(
+// Appends the hypothesis of that number, which stands in its file.
+#[tactic(auto, unfolding(crate::specs::Texts::given_line))]
+fn add_given(
     alloc: Global,
     text: &mut Vec<u8>,
-    file: &[u8],
     number: usize,
     hypothesis: &Hypothesis<'_>,
 ) -> Result<(), AllocError>
-    ensures { OnOk result (text.new.items ≡ text.old.items ++ texts.axiom_line file.now number hypothesis.now) }
+    ensures { OnOk result (text.new.items ≡ text.old.items ++ texts.given_line number hypothesis.now) }
 {
     let mut buffer = Buffer::new();
     let number = buffer.format(number).as_bytes();
-    let formula = formula_text(alloc, &hypothesis.formula)?;
-    let source = source_text(alloc, file, hypothesis.name)?;
+    let formula = formula_text(alloc, hypothesis)?;
+    let source = source_text(alloc, hypothesis.file, hypothesis.name)?;
     add_line(
         text,
-        &[b"thf(h", number, b",axiom,", &formula, b",", &source, b")."],
+        &[
+            b"thf(h",
+            number,
+            b",",
+            hypothesis.role.word(),
+            b",",
+            &formula,
+            b",",
+            &source,
+            b").",
+        ],
     )
 }
 
@@ -120,16 +148,15 @@ fn add_axiom(
 fn add_conjecture(
     alloc: Global,
     text: &mut Vec<u8>,
-    file: &[u8],
     number: usize,
     hypothesis: &Hypothesis<'_>,
 ) -> Result<(), AllocError>
-    ensures { OnOk result (text.new.items ≡ text.old.items ++ texts.conjecture_line file.now number hypothesis.now) }
+    ensures { OnOk result (text.new.items ≡ text.old.items ++ texts.conjecture_line number hypothesis.now) }
 {
     let mut buffer = Buffer::new();
     let number = buffer.format(number).as_bytes();
-    let formula = formula_text(alloc, &hypothesis.formula)?;
-    let source = source_text(alloc, file, hypothesis.name)?;
+    let formula = formula_text(alloc, hypothesis)?;
+    let source = source_text(alloc, hypothesis.file, hypothesis.name)?;
     add_line(
         text,
         &[
@@ -148,15 +175,14 @@ fn add_conjecture(
 fn add_hypothesis(
     alloc: Global,
     text: &mut Vec<u8>,
-    file: &[u8],
     number: usize,
     hypothesis: &Hypothesis<'_>,
 ) -> Result<(), AllocError>
-    ensures { OnOk result (text.new.items ≡ text.old.items ++ texts.hypothesis_line file.now number hypothesis.now) }
+    ensures { OnOk result (text.new.items ≡ text.old.items ++ texts.hypothesis_line number hypothesis.now) }
 {
     match hypothesis.role {
-        Role::Axiom => add_axiom(alloc, text, file, number, hypothesis),
-        Role::Conjecture => add_conjecture(alloc, text, file, number, hypothesis),
+        Role::Conjecture => add_conjecture(alloc, text, number, hypothesis),
+        _ => add_given(alloc, text, number, hypothesis),
     }
 }
 
@@ -164,20 +190,19 @@ fn add_hypothesis(
 fn add_hypotheses(
     alloc: Global,
     text: &mut Vec<u8>,
-    file: &[u8],
     a: usize,
     asserted: &Hypothesis<'_>,
     b: usize,
     denied: &Hypothesis<'_>,
 ) -> Result<(), AllocError>
-    ensures { OnOk result (text.new.items ≡ text.old.items ++ concat (texts.hypothesis_lines file.now a asserted.now b denied.now)) }
+    ensures { OnOk result (text.new.items ≡ text.old.items ++ concat (texts.hypothesis_lines a asserted.now b denied.now)) }
 {
     if a < b {
-        add_hypothesis(alloc, text, file, a, asserted)?;
-        add_hypothesis(alloc, text, file, b, denied)?;
+        add_hypothesis(alloc, text, a, asserted)?;
+        add_hypothesis(alloc, text, b, denied)?;
     } else {
-        add_hypothesis(alloc, text, file, b, denied)?;
-        add_hypothesis(alloc, text, file, a, asserted)?;
+        add_hypothesis(alloc, text, b, denied)?;
+        add_hypothesis(alloc, text, a, asserted)?;
     }
     Ok(())
 }
@@ -307,8 +332,8 @@ pub fn add_output(
     ensures { OnOk result (text.new.items ≡ text.old.items ++ concat (texts.output_lines file.now a asserted.now b denied.now)) }
 {
     add_start(alloc, text, file)?;
-    add_hypotheses(alloc, text, file, a, asserted, b, denied)?;
-    add_steps(text, a, b, &formula_text(alloc, &asserted.formula)?)?;
+    add_hypotheses(alloc, text, a, asserted, b, denied)?;
+    add_steps(text, a, b, &formula_text(alloc, asserted)?)?;
     add_end(alloc, text, file)?;
     Ok(())
 }

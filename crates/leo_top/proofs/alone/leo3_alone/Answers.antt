@@ -1,9 +1,8 @@
-use Rattle.std.proofs.Common.{sym, ◌∙◌}
 use Rattle.leo_top.proofs.Ending.{answered_exact, answered_theorem, answered_unsatisfiable, answered_usage, answered_no_command, answered_read_fault, answered_write_fault}
 use Rattle.leo_top.proofs.alone.leo3_alone.Goals as goal
 
 pub returns-clause-exact : goal.returns-clause-exact
-returns-clause-exact g c = answered_exact c.answers_are_unique.ensures c.answered.ensures.answer
+returns-clause-exact g c = answered_exact c.problems_are_unique.ensures c.answers_are_unique.ensures c.answered.ensures.answer
 
 pub returns-clause-theorem : goal.returns-clause-theorem
 returns-clause-theorem g c = answered_theorem c.answered.ensures.answer
@@ -18,9 +17,7 @@ pub returns-clause-no_command : goal.returns-clause-no_command
 returns-clause-no_command g c = answered_no_command c.answered.ensures.answer
 
 pub returns-clause-read_fault : goal.returns-clause-read_fault
-returns-clause-read_fault g c = λ e.
-    let r = answered_read_fault c.answered.ensures.answer e in
-    (r.2.0, r.2.1 ∙ sym r.1.named)
+returns-clause-read_fault g c = answered_read_fault c.answered.ensures.answer
 
 pub returns-clause-write_fault : goal.returns-clause-write_fault
 returns-clause-write_fault g c = answered_write_fault c.answered.ensures.answer

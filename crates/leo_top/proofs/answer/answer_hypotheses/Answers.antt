@@ -13,7 +13,7 @@ returns-in_ok-text-in-Some c =
     let b = c.in-Some.pair.denied in
     let asserted = slice_get_read hs _ a c.index-hypotheses-pair.result refl c.in-Some.ensures.within.0 c.index-hypotheses-pair.is in
     let denied = slice_get_read hs _ b c.index-hypotheses-pair-in-Some.result refl c.in-Some.ensures.within.1 c.index-hypotheses-pair-in-Some.is in
-    pair_made c.args.file.now hs a b _ _ _ _ c.refuted_status-status.ensures c.in-Some.ensures.first asserted denied c.in_ok-text-in-Some.ensures
+    pair_made c.args.file.now c.args.conjectured hs a b _ _ _ _ c.refuted_status-status.ensures c.in-Some.ensures.first asserted denied c.in_ok-text-in-Some.ensures
 
 pub returns-in_ok-text-in-None : goal.returns-in_ok-text-in-None
 returns-in_ok-text-in-None c = record {

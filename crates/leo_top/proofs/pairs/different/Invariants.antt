@@ -1,5 +1,5 @@
 use Rattle.std.proofs.Common.{◌≡◌, ◌+◌, ◌≤◌, drop}
-use Rattle.leo_top.specs.Formulas.{formulas}
+use Rattle.leo_top.specs.Problem.{formulas}
 use Rattle.leo_top.specs.Pairs.{different}
 use Rattle.leo_top.proofs.pairs.different.Given as goal
 

@@ -1,5 +1,5 @@
 use Rattle.std.proofs.Common.{ℕ, ◌<◌}
-use Rattle.leo_top.specs.Formulas.{formulas}
+use Rattle.leo_top.specs.Problem.{formulas}
 use Rattle.leo_top.specs.Pairs.{IsPair}
 use Rattle.leo_top.proofs.pairs.first_pair.Given as goal
 

@@ -8,4 +8,4 @@ returns c =
     let digits = c.as_bytes-number.ensures.value ∙ c.format.ensures.text in
     let formula = c.deref.ensures.value ∙ c.in_ok-formula.ensures in
     let source = c.deref-2.ensures.value ∙ c.in_ok-source.ensures in
-    rw (← c.hypothesis.view_is, ← digits, ← formula, ← source) c.add_line.ensures
+    rw (← digits, ← formula, ← c.hypothesis.view_is, ← source) c.add_line.ensures
