@@ -88,7 +88,7 @@ pub(crate) fn make_board(alloc: Global, bank: &mut Bank) -> Result<Board, AllocE
     })
 }
 
-/// The type at a place.
+/// The type at a place, if there is one.
 fn put_type(
     bank: &Bank,
     types: &[TyId],
@@ -107,7 +107,7 @@ fn put_type(
     Ok(())
 }
 
-/// The types of variables, by the digits of their places among the types.
+/// The types of variables, by the digits of their places among the types; other bytes are passed over.
 fn variable_types(
     alloc: Global,
     bank: &Bank,
