@@ -32,7 +32,12 @@ pub(crate) enum Case {
     NoHypothesis,
     /// It abbreviates by two symbols, and has one of them in another line.
     Abbreviated,
+    /// It takes the same step ten thousand times.
+    Many,
 }
+
+/// How many more lines there are of that step.
+const MANY: u32 = 10_000;
 
 fn put_start(
     alloc: Global,
@@ -120,6 +125,24 @@ fn put_abbreviated(
     put_end(alloc, bank, terms, lines)
 }
 
+fn put_many(
+    alloc: Global,
+    bank: &Bank,
+    terms: &Terms,
+    lines: &mut Vec<StepRecord>,
+) -> Result<(), AllocError>
+    requires terms { AreTermsIn bank.now terms.now }
+    requires lines { AreStepsOf bank.now lines.old.items }
+    ensures { OnOk result (AreStepsOf bank.now lines.new.items) }
+{
+    put_start(alloc, bank, terms, lines)?;
+    for _ in 0..MANY {
+        put_conflict(alloc, bank, terms, lines, 2)?;
+    }
+    put_unequal(alloc, bank, terms, lines, 0)?;
+    put_empty(alloc, bank, lines)
+}
+
 fn put_case(
     alloc: Global,
     bank: &Bank,
@@ -139,6 +162,7 @@ fn put_case(
         Case::Nothing => Ok(()),
         Case::NoHypothesis => put_further(alloc, bank, terms, lines, 2),
         Case::Abbreviated => put_abbreviated(alloc, bank, terms, lines),
+        Case::Many => put_many(alloc, bank, terms, lines),
     }
 }
 

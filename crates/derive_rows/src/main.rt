@@ -22,5 +22,6 @@ fn main(rt: HostRuntime) -> ExitCode {
         "two abbreviations, one of them used",
         Case::Abbreviated,
     );
+    row(&rt, "one step ten thousand times", Case::Many);
     ExitCode::SUCCESS
 }
