@@ -1,5 +1,6 @@
 //! Files in memory that keep the names that they are asked for.
 
+ghost use Rattle.std.specs.Prelude.{◌≡◌, [], false};
 ghost use Rattle.std.specs.Option.{option_map};
 ghost use Rattle.std.specs.String.{string_bytes};
 ghost use Rattle.leo_edge.specs.Memory.{content_of};
@@ -17,7 +18,11 @@ pub struct Asked {
 
 impl Asked {
     /// No files, which were asked for nothing.
-    pub fn new(alloc: Global) -> Asked {
+    pub fn new(alloc: Global) -> Asked
+        ensures files { result.files.files.items ≡ [] }
+        ensures names { result.names.items ≡ [] }
+        ensures tells { result.is_quiet ≡ false }
+    {
         Asked {
             files: MemFiles::new(alloc),
             names: Vec::new(alloc),
