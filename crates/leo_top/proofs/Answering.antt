@@ -1,10 +1,15 @@
 -- How the answers of the parts make the answer of the whole.
-use Rattle.std.proofs.Common.{◌≡◌, ◌≢◌, ℕ, Bool, List, [], ◌∷◌, ◌++◌, length, Option, Some, None, Result, Ok, Err, Vec, IfOk, sym, ap, subst, ◌∙◌}
+use Rattle.std.proofs.Common.{◌≡◌, ◌≢◌, ◌≤◌, ◌⊎◌, inr, arith, ℕ, Bool, List, [], ◌++◌, Option, Some, None, Result, Ok, Err, IfOk, codes, sym, subst, ◌∙◌}
 use Rattle.std.specs.Option.{option_map}
 use Rattle.std.specs.List.{concat, slice_get}
+use Rattle.std.proofs.lemmas.Fmt.{decimal_injective}
+use Rattle.std.specs.Prelude.{IsSomeAnd}
+use Rattle.clap.specs.Words.{fault_of, first_of, matches_of}
+use Rattle.leo_command.specs.declared.leo3.Search.{Search}
+use Rattle.leo_command.specs.Commands.{IsMistake, IsNumberWord, IsSearch, leo3_app}
 use Rattle.leo_top.specs.declared.answer.Answer.{Answer}
 use Rattle.leo_top.specs.declared.status.Status.{Status}
-use Rattle.leo_top.specs.declared.status.Status.TheVariants.{WriteFault, MemoryOut}
+use Rattle.leo_top.specs.declared.status.Status.TheVariants.{WriteFault}
 use Rattle.leo_problem.specs.declared.refusal.What.{What}
 use Rattle.leo_problem.specs.Theories.{Theory, says, refused}
 use Rattle.leo_problem.specs.Theories.{Answer as Said}
@@ -14,8 +19,8 @@ use Rattle.leo_problem.specs.declared.refusal.LoadRefusal.TheVariants.{Refused, 
 use Rattle.leo_top.specs.Refusals.{refused_status}
 use Rattle.leo_top.specs.Problem.{Hypothesis, formulas, IsFirstForm}
 use Rattle.leo_top.specs.Pairs.{IsFirstPair}
-use Rattle.leo_top.specs.Answers.{IsMadeOf, AnswersHypotheses, AnswersProblem, AnswersCall, IsExcused, by_problem, by_refusal, by_pair, refuted_status, by_form, SaysNoMemory, IsCommand, IsCut, IsWritten, whole, cut, status_word}
-use Rattle.leo_top.specs.Texts.{status_line, refuted_lines, refused_lines}
+use Rattle.leo_top.specs.Answers.{IsMadeOf, AnswersHypotheses, AnswersProblem, AnswersFile, AnswersCall, IsExcused, by_files, by_problem, file_of, root_of, IsNoCommand, by_refusal, by_pair, refuted_status, by_form, IsCommand, IsCut, IsWritten, whole, cut, status_word}
+use Rattle.leo_top.specs.Texts.{refuted_lines, refused_lines}
 
 pub made_weaker : {Fact Other : List (List ℕ) → Type 0} (text : List ℕ) → ((lines : List (List ℕ)) → Fact lines → Other lines) → IsMadeOf Fact text →
     IsMadeOf Other text
@@ -47,15 +52,6 @@ pair_made file c hs a b asserted denied s text same first x y made =
     let P : Status → Type 0 = λ t. AnswersHypotheses file c hs t (refuted_lines (status_word t) file a asserted b denied) in
     record { lines = _; holds = subst P (sym same) (by_pair first x y); text_is = made }
 
-pub commanded : (words : List (List ℕ)) (n : ℕ) (word file : List ℕ) → n ≡ length words → n ≡ 2 → slice_get words 1 ≡ Some word → word ≡ file → IsCommand words file
-commanded words n word file count two named same = record { two = sym count ∙ two; named = named ∙ ap Some same }
-
-pub memory_made : (words : List (List ℕ)) (subject : List ℕ) {E Z : Type 0} (r : Result (Vec ℕ Z) E) →
-    SaysNoMemory words (status_line (status_word MemoryOut) subject ∷ []) →
-    IfOk r (λ v. v.items ≡ concat (status_line (status_word MemoryOut) subject ∷ [])) → IfOk r (λ v. IsMadeOf (SaysNoMemory words) v.items)
-memory_made words subject (Err e) said made = tt
-memory_made words subject (Ok v) said made = record { lines = _; holds = said; text_is = made }
-
 -- an answer that was written, by its lines
 pub lines_written : (text : List ℕ) (lines : List (List ℕ)) (before now : Option (List ℕ)) (Failed : Type 0) (due status : Status) → text ≡ concat lines →
     IsWritten text before now Failed due status → IsWritten (concat lines) before now Failed due status
@@ -75,19 +71,42 @@ cut_with {text} {before} {now} {Failed} {due} {status} same c f =
     let P : Status → Type 0 = λ s. IsWritten text before now Failed due s in
     subst P (sym same) (cut c f)
 
--- an answer to what the files of a command's problem say
-pub problem_answered : {words : List (List ℕ)} {told : List ℕ → Option (List ℕ)} {fb fn : ℕ} {failed : Option (List ℕ)} {word file : List ℕ} {a : Said} → IsCommand words file → word ≡ file →
-    ProblemOf told word None a → IsExcused fb fn failed a → (s : Status) (lines : List (List ℕ)) → AnswersProblem file a s lines → AnswersCall words told fb fn failed s lines
-problem_answered {told = told} {a = a} c e p x s lines b = let P : List ℕ → Type 0 = λ f. ProblemOf told f None a in by_problem c (subst P e p) x b
+-- an answer to what the files say
+pub problem_answered : {told : List ℕ → Option (List ℕ)} {fb fn : ℕ} {failed root : Option (List ℕ)} {word file : List ℕ} {a : Said} → word ≡ file →
+    ProblemOf told word root a → IsExcused fb fn failed a → (s : Status) (lines : List (List ℕ)) → AnswersProblem file a s lines → AnswersFile word root told fb fn failed s lines
+problem_answered {a = a} e p x s lines b = let P : List ℕ → Type 0 = λ f. AnswersProblem f a s lines in by_files p x (subst P (sym e) b)
 
--- an answer to a refusal of a command's problem
-pub refused_answered : {words : List (List ℕ)} {told : List ℕ → Option (List ℕ)} {fb fn : ℕ} {failed : Option (List ℕ)} {word file about shown : List ℕ} {byte : ℕ} {w : What} → IsCommand words file → word ≡ file →
-    (r : LoadRefusal) → r ≡ Refused about byte w → (r ≢ Memory → ProblemOf told word None (refused r)) → IsFault fb fn failed r → shown ≡ about →
-    AnswersCall words told fb fn failed (refused_status w) (refused_lines (status_word (refused_status w)) file shown byte w)
-refused_answered {words} {told} {fb} {fn} {failed} {word} {file} {about} {shown} {byte} {w} c e r q p x s =
+-- an answer to a refusal of the files
+pub refused_answered : {told : List ℕ → Option (List ℕ)} {fb fn : ℕ} {failed root : Option (List ℕ)} {word file about shown : List ℕ} {byte : ℕ} {w : What} → word ≡ file →
+    (r : LoadRefusal) → r ≡ Refused about byte w → (r ≢ Memory → ProblemOf told word root (refused r)) → IsFault fb fn failed r → shown ≡ about →
+    AnswersFile word root told fb fn failed (refused_status w) (refused_lines (status_word (refused_status w)) file shown byte w)
+refused_answered {told} {fb} {fn} {failed} {root} {word} {file} {about} {shown} {byte} {w} e r q p x s =
     let no_memory : r ≢ Memory = λ m. (let k : Refused about byte w ≡ Memory = sym q ∙ m in cc) in
-    let P : LoadRefusal → Type 0 = λ u. ProblemOf told word None (refused u) in
+    let P : LoadRefusal → Type 0 = λ u. ProblemOf told word root (refused u) in
     let Q : LoadRefusal → Type 0 = IsFault fb fn failed in
-    let R : List ℕ → Type 0 = λ f. AnswersCall words told fb fn failed (refused_status w) (refused_lines (status_word (refused_status w)) file f byte w) in
-    let done : R about = problem_answered c e (subst P q (p no_memory)) (subst Q q x) _ _ by_refusal in
+    let R : List ℕ → Type 0 = λ f. AnswersFile word root told fb fn failed (refused_status w) (refused_lines (status_word (refused_status w)) file f byte w) in
+    let done : R about = problem_answered e (subst P q (p no_memory)) (subst Q q x) _ _ by_refusal in
     subst R (sym s) done
+
+-- the answer for a file, once words ask for it
+pub asked_answered : {told : List ℕ → Option (List ℕ)} {fb fn : ℕ} {failed : Option (List ℕ)} {text file : List ℕ} {root : Option (List ℕ)} {due : Status} (search : Search) → file ≡ file_of search → root ≡ root_of search →
+    IsMadeOf (AnswersFile file root told fb fn failed due) text → (words : List (List ℕ)) → IsCommand words search → IsMadeOf (AnswersCall words told fb fn failed due) text
+asked_answered {told} {fb} {fn} {failed} {text} {file} {root} {due} search same_file same_root m words c =
+    let P : List ℕ → Type 0 = λ f. AnswersFile f root told fb fn failed due m.lines in
+    let Q : Option (List ℕ) → Type 0 = λ r. AnswersFile (file_of search) r told fb fn failed due m.lines in
+    record { lines = m.lines; holds = by_problem c (subst Q same_root (subst P same_file m.holds)); text_is = m.text_is }
+
+-- a search with child provers is not run
+pub with_children : (words : List (List ℕ)) (s : Search) → IsSearch words s → (s.settings.children ≡ 0 → ⊥) → IsNoCommand words
+with_children words s asked some = record { no_search = λ u c. some (same_number (first_of (codes "children") (matches_of leo3_app words)) s.settings.children u.settings.children asked.found.settings.children c.asked.found.settings.children ∙ c.alone); no_request = inr asked.taken }
+  where
+    same_number : (o : Option (List ℕ)) (m n : ℕ) → IsSomeAnd o (λ w. IsNumberWord w 0 8 m) → IsSomeAnd o (λ w. IsNumberWord w 0 8 n) → m ≡ n
+    same_number None m n a b = absurd a
+    same_number (Some w) m n a b =
+        let m_small : m ≤ 8 = a.to in
+        let n_small : n ≤ 8 = b.to in
+        decimal_injective m n (omega arith) (omega arith) (sym a.word_is ∙ b.word_is)
+
+-- words that are not taken are no command
+pub not_taken : (words : List (List ℕ)) → ((s : Search) → ¬ IsSearch words s) → IsMistake (fault_of leo3_app words) ⊎ (fault_of leo3_app words ≡ []) → IsNoCommand words
+not_taken words none why = record { no_search = λ s c. none s c.asked; no_request = why }

@@ -1,5 +1,5 @@
 -- The causes of the answers.
-use Rattle.std.proofs.Common.{◌≡◌, ◌≢◌, ℕ, ◌<◌, ◌≤◌, ◌⊎◌, Bool, true, false, if◌then◌else◌, List, length, Option, Some, None, inl, inr, refl, sym, ap, subst, ◌∙◌, arith}
+use Rattle.std.proofs.Common.{◌≡◌, ℕ, ◌<◌, ◌≤◌, ◌⊎◌, Bool, true, false, if◌then◌else◌, List, [], ◌∷◌, Option, Some, inl, inr, refl, sym, ap, subst, ◌∙◌, arith}
 use Rattle.std.specs.List.{concat, slice_get}
 use Rattle.leo_q0.specs.Terms.{Term}
 use Rattle.leo_q0.specs.Connectives.{false_term}
@@ -11,13 +11,16 @@ use Rattle.leo_problem.specs.Theories.{Answer, refused}
 use Rattle.leo_problem.specs.Loading.{ProblemOf}
 use Rattle.leo_problem.specs.Laws.{AreTold, IsUnread, unreadable, OneProblem}
 use Rattle.leo_top.specs.declared.status.Status.{Status}
-use Rattle.leo_top.specs.declared.status.Status.TheVariants.{Theorem, Unsatisfiable, GaveUp, SyntaxError, TypeError, InputError, UsageError, OSError, WriteFault, MemoryOut}
+use Rattle.leo_top.specs.declared.status.Status.TheVariants.{Theorem, Unsatisfiable, GaveUp, SyntaxError, TypeError, InputError, UsageError, OSError, WriteFault, MemoryOut, Shown}
 use Rattle.leo_top.specs.Problem.{Formula, Hypothesis, formulas}
 use Rattle.leo_top.specs.Pairs.{IsPair, IsFirstPair}
 use Rattle.leo_top.specs.Refusals.{refused_status}
 use Rattle.leo_top.specs.Laws.{OneAnswer}
 use Rattle.leo_top.specs.Texts.{refuted_lines}
-use Rattle.leo_top.specs.Answers.{status_word, refuted_status, AnswersHypotheses, by_pair, by_no_pair, AnswersProblem, by_form, by_no_form, by_refusal, IsExcused, AnswersCall, by_usage, by_problem, by_memory, IsCommand, IsWritten, whole, cut, IsAnswered, IsGiven, IsRefutable, IsUnreadable, IsFault, os_error, write_fault, memory_out}
+use Rattle.clap.specs.Words.{Kinds, fault_of}
+use Rattle.leo_command.specs.declared.leo3.Search.{Search}
+use Rattle.leo_command.specs.Commands.{IsRequest, leo3_app}
+use Rattle.leo_top.specs.Answers.{status_word, refuted_status, AnswersHypotheses, by_pair, by_no_pair, AnswersProblem, by_form, by_no_form, by_refusal, IsExcused, AnswersFile, by_files, AnswersCall, by_usage, by_request, by_problem, by_memory, by_no_memory, file_of, root_of, IsNoCommand, IsCommand, IsWritten, whole, cut, IsAnswered, IsGiven, IsRefutable, IsUnreadable, IsFault, os_error, write_fault, memory_out}
 use Rattle.leo_top.proofs.Falsity.{derived}
 use Rattle.leo_top.proofs.Formed.{one-form, formed-terms}
 
@@ -26,6 +29,7 @@ abbrev IsOfProblem : Status → Type 0
 IsOfProblem UsageError = ⊥
 IsOfProblem WriteFault = ⊥
 IsOfProblem MemoryOut = ⊥
+IsOfProblem Shown = ⊥
 IsOfProblem _ = Unit {0}
 
 -- what a refused problem can be answered with
@@ -51,6 +55,7 @@ of_refusal UsageError h = h
 of_refusal OSError h = tt
 of_refusal WriteFault h = h
 of_refusal MemoryOut h = h
+of_refusal Shown h = h
 
 of_what : (w : What) → IsOfRefusal (refused_status w)
 of_what what.Includes = tt
@@ -91,11 +96,15 @@ hypotheses_other : {file : List ℕ} {c : Bool} {hs : List Hypothesis} {s : Stat
 hypotheses_other {c = c} (by_pair p a d) e = os_other c e
 hypotheses_other (by_no_pair n) e = cc
 
+of_file : {file : List ℕ} {root : Option (List ℕ)} {told : List ℕ → Option (List ℕ)} {fb fn : ℕ} {failed : Option (List ℕ)} {t : Status} {lines : List (List ℕ)} →
+    AnswersFile file root told fb fn failed t lines → IsOfProblem t
+of_file (by_files p x a) = of_problem a
+
 module _ {words : List (List ℕ)} {told : List ℕ → Option (List ℕ)} {fb fn : ℕ} {failed : Option (List ℕ)} where
-  unread_row : {file about : List ℕ} {byte : ℕ} (w : What) → IsCommand words file → ProblemOf told file None (refused (Refused about byte w)) → IsExcused fb fn failed (refused (Refused about byte w)) →
+  unread_row : {s : Search} {about : List ℕ} {byte : ℕ} (w : What) → IsCommand words s → ProblemOf told (file_of s) (root_of s) (refused (Refused about byte w)) → IsExcused fb fn failed (refused (Refused about byte w)) →
       refused_status w ≡ OSError → IsUnreadable words told fb fn failed
   unread_row what.Includes c p x e = absurd cc
-  unread_row {file} {about} {byte} what.ReadFault c p x e = record { file = file; about = about; byte = byte; command = c; said = p; risen = x.0; failed_is = x.1 }
+  unread_row {s} {about} {byte} what.ReadFault c p x e = record { search = s; about = about; byte = byte; command = c; said = p; risen = x.0; failed_is = x.1 }
   unread_row what.Large c p x e = absurd cc
   unread_row what.Lexical c p x e = absurd cc
   unread_row what.Deep c p x e = absurd cc
@@ -108,31 +117,49 @@ module _ {words : List (List ℕ)} {told : List ℕ → Option (List ℕ)} {fb f
   unread_row what.WrongType c p x e = absurd cc
   unread_row what.Free c p x e = absurd cc
 
-  unread_problem : {file : List ℕ} {a : Answer} {s : Status} {lines : List (List ℕ)} → IsCommand words file → ProblemOf told file None a → IsExcused fb fn failed a →
-      AnswersProblem file a s lines → s ≡ OSError → IsUnreadable words told fb fn failed
+  unread_problem : {s : Search} {a : Answer} {t : Status} {lines : List (List ℕ)} → IsCommand words s → ProblemOf told (file_of s) (root_of s) a → IsExcused fb fn failed a →
+      AnswersProblem (file_of s) a t lines → t ≡ OSError → IsUnreadable words told fb fn failed
   unread_problem c p x (by_form f h) e = absurd (hypotheses_other h e)
   unread_problem c p x (by_no_form n) e = absurd cc
   unread_problem c p x (by_refusal {what = w}) e = unread_row w c p x e
 
-  pub usage_cause : {s : Status} {lines : List (List ℕ)} → AnswersCall words told fb fn failed s lines → s ≡ UsageError → length words ≢ 2
-  usage_cause (by_usage n) e = n
-  usage_cause (by_problem c p x a) e = absurd (not_of_problem (of_problem a) e)
-  usage_cause (by_memory m) e = absurd cc
+  unread_file : {s : Search} {t : Status} {lines : List (List ℕ)} → IsCommand words s → AnswersFile (file_of s) (root_of s) told fb fn failed t lines → t ≡ OSError → IsUnreadable words told fb fn failed
+  unread_file c (by_files p x a) e = unread_problem c p x a e
 
-  pub no_command_cause : {s : Status} {lines : List (List ℕ)} → AnswersCall words told fb fn failed s lines → length words ≢ 2 → (s ≡ UsageError) ⊎ IsFault s
+  pub usage_cause : {s : Status} {lines : List (List ℕ)} → AnswersCall words told fb fn failed s lines → s ≡ UsageError → IsNoCommand words
+  usage_cause (by_usage n) e = n
+  usage_cause (by_request r) e = absurd cc
+  usage_cause (by_problem c a) e = absurd (not_of_problem (of_file a) e)
+  usage_cause (by_memory c m) e = absurd cc
+  usage_cause by_no_memory e = absurd cc
+
+  pub no_command_cause : {s : Status} {lines : List (List ℕ)} → AnswersCall words told fb fn failed s lines → ((search : Search) → ¬ IsCommand words search) → (s ≡ UsageError) ⊎ ((s ≡ Shown) ⊎ IsFault s)
   no_command_cause (by_usage n) e = inl refl
-  no_command_cause (by_problem c p x a) e = absurd (e c.two)
-  no_command_cause (by_memory m) e = inr memory_out
+  no_command_cause (by_request r) e = inr (inl refl)
+  no_command_cause (by_problem {s = search} c a) e = absurd (e search c)
+  no_command_cause (by_memory c m) e = inr (inr memory_out)
+  no_command_cause by_no_memory e = inr (inr memory_out)
+
+  pub shown_cause : {s : Status} {lines : List (List ℕ)} → AnswersCall words told fb fn failed s lines → s ≡ Shown → IsRequest (fault_of leo3_app words)
+  shown_cause (by_usage n) e = absurd cc
+  shown_cause (by_request r) e = r
+  shown_cause (by_problem c a) e = absurd (not_of_problem (of_file a) e)
+  shown_cause (by_memory c m) e = absurd cc
+  shown_cause by_no_memory e = absurd cc
 
   pub read_fault_cause : {s : Status} {lines : List (List ℕ)} → AnswersCall words told fb fn failed s lines → s ≡ OSError → IsUnreadable words told fb fn failed
   read_fault_cause (by_usage n) e = absurd cc
-  read_fault_cause (by_problem c p x a) e = unread_problem c p x a e
-  read_fault_cause (by_memory m) e = absurd cc
+  read_fault_cause (by_request r) e = absurd cc
+  read_fault_cause (by_problem c a) e = unread_file c a e
+  read_fault_cause (by_memory c m) e = absurd cc
+  read_fault_cause by_no_memory e = absurd cc
 
   pub no_write_fault : {s : Status} {lines : List (List ℕ)} → AnswersCall words told fb fn failed s lines → s ≡ WriteFault → ⊥
   no_write_fault (by_usage n) e = cc
-  no_write_fault (by_problem c p x a) e = not_of_problem (of_problem a) e
-  no_write_fault (by_memory m) e = cc
+  no_write_fault (by_request r) e = cc
+  no_write_fault (by_problem c a) e = not_of_problem (of_file a) e
+  no_write_fault (by_memory c m) e = cc
+  no_write_fault by_no_memory e = cc
 
 one_status : (b c : Bool) → status_by b ≡ status_by c → b ≡ c
 one_status true true e = refl
@@ -154,13 +181,13 @@ refuted_pair {d = d} c (by_pair {a = a} {b = b} p s t) e = (a, b, p.pair, one_st
 refuted_pair c (by_no_pair n) e = absurd (gave_up_other c e)
 
 module _ {words : List (List ℕ)} {told : List ℕ → Option (List ℕ)} where
-  refuted_problem : {file : List ℕ} {a : Answer} {s : Status} {lines : List (List ℕ)} (c : Bool) → IsCommand words file → ProblemOf told file None a → AnswersProblem file a s lines → s ≡ status_by c →
+  refuted_problem : {search : Search} {a : Answer} {s : Status} {lines : List (List ℕ)} (c : Bool) → IsCommand words search → ProblemOf told (file_of search) (root_of search) a → AnswersProblem (file_of search) a s lines → s ≡ status_by c →
       IsRefutable words told c
-  refuted_problem {file} c k p (by_form {t = t} {hypotheses = hs} f h) e =
+  refuted_problem {search} c k p (by_form {t = t} {hypotheses = hs} f h) e =
       let q = refuted_pair c h e in
       let P : List Term → Type 0 = λ H. Derives H false_term in
       record {
-        file = file;
+        search = search;
         theory = t;
         hypotheses = hs;
         command = k;
@@ -178,8 +205,10 @@ not_of_status c s n e = n (let P : Status → Type 0 = IsOfProblem in subst P (s
 pub refuted_cause : {words : List (List ℕ)} {told : List ℕ → Option (List ℕ)} {fb fn : ℕ} {failed : Option (List ℕ)} {s : Status} {lines : List (List ℕ)} (c : Bool) →
     AnswersCall words told fb fn failed s lines → s ≡ status_by c → IsRefutable words told c
 refuted_cause c (by_usage n) e = absurd (not_of_status c UsageError (λ h. h) e)
-refuted_cause c (by_problem k p x a) e = refuted_problem c k p a e
-refuted_cause c (by_memory m) e = absurd (not_of_status c MemoryOut (λ h. h) e)
+refuted_cause c (by_request r) e = absurd (not_of_status c Shown (λ h. h) e)
+refuted_cause c (by_problem k (by_files p x a)) e = refuted_problem c k p a e
+refuted_cause c (by_memory k m) e = absurd (not_of_status c MemoryOut (λ h. h) e)
+refuted_cause c by_no_memory e = absurd (not_of_status c MemoryOut (λ h. h) e)
 
 -- the status is the text's, or the sink failed
 pub written_status : {text : List ℕ} {before now : Option (List ℕ)} {Failed : Type 0} {due status : Status} →
@@ -251,20 +280,48 @@ module _ {before now : Option (List ℕ)} {Failed : Type 0} {status : Status} wh
       let S : List (List ℕ) → Type 0 = λ ms. IsWritten (concat ms) before now Failed s status in
       given_or_cut (subst S o.1 (subst R o.0 w))
 
-module _ {words : List (List ℕ)} {told : List ℕ → Option (List ℕ)} {fb fn : ℕ} {failed before now : Option (List ℕ)} {Failed : Type 0} {status : Status} where
-  exact_by : {due s : Status} {ls lines : List (List ℕ)} → OneProblem → OneAnswer → (file : List ℕ) (said : Answer) → AnswersCall words told fb fn failed due ls → IsWritten (concat ls) before now Failed due status →
-      IsCommand words file → AreTold told file None → ProblemOf told file None said → ¬ IsUnread said → AnswersProblem file said s lines → IsGiven (concat lines) before now s status ⊎ IsFault status
-  exact_by problems answers file said (by_usage n) w command known p u a = absurd (n command.two)
-  exact_by problems answers file said (by_memory m) w command known p u a = inr (fault_stays w memory_out)
-  exact_by {due} {s} {ls} {lines} problems answers file said (by_problem {file = other} {answer = got} c q x b) w command known p u a =
-      let same_file : other ≡ file = let k = sym c.named ∙ command.named in cc in
-      let P : List ℕ → Type 0 = λ f. AnswersProblem f got due ls in
-      let Q : List ℕ → Type 0 = λ f. ProblemOf told f None got in
-      same_problem said answers w (subst P same_file b) a (problems told file None got said known (subst Q same_file q) p u)
+cut_fault : {status : Status} → status ≡ WriteFault → IsFault status
+cut_fault e = let P : Status → Type 0 = IsFault in subst P (sym e) write_fault
 
-  pub answered_exact : OneProblem → OneAnswer → IsAnswered words told fb fn failed before now Failed status → (file : List ℕ) (said : Answer) (s : Status) (lines : List (List ℕ)) →
-      IsCommand words file → AreTold told file None → ProblemOf told file None said → ¬ IsUnread said → AnswersProblem file said s lines → IsGiven (concat lines) before now s status ⊎ IsFault status
-  answered_exact problems answers a file said s lines command known p u b = exact_by problems answers file said a.answers a.written command known p u b
+-- words that are taken ask for no text
+no_request : (words : List (List ℕ)) (s : Search) → IsCommand words s → IsRequest (fault_of leo3_app words) → ⊥
+no_request words s c r = none (fault_of leo3_app words) c.asked.taken r
+  where
+    none : (kinds : Kinds) → kinds ≡ [] → IsRequest kinds → ⊥
+    none [] e (inl h) = h
+    none [] e (inr h) = h
+    none (k ∷ ks) e h = cc
+
+-- two searches that the same words ask for have one file and one root
+same_file : (words : List (List ℕ)) (s u : Search) → IsCommand words s → IsCommand words u → file_of s ≡ file_of u
+same_file words s u c d = let k = sym c.asked.found.file ∙ d.asked.found.file in cc
+
+same_root : (words : List (List ℕ)) (s u : Search) → IsCommand words s → IsCommand words u → root_of s ≡ root_of u
+same_root words s u c d = sym c.asked.found.root ∙ d.asked.found.root
+
+module _ {told : List ℕ → Option (List ℕ)} {fb fn : ℕ} {failed before now : Option (List ℕ)} {Failed : Type 0} {status : Status} where
+  exact_file : {due t : Status} {ls lines : List (List ℕ)} (file other : List ℕ) (root root' : Option (List ℕ)) → OneProblem → OneAnswer → (said : Answer) → other ≡ file → root' ≡ root →
+      AnswersFile other root' told fb fn failed due ls → IsWritten (concat ls) before now Failed due status →
+      AreTold told file root → ProblemOf told file root said → ¬ IsUnread said → AnswersProblem file said t lines → IsGiven (concat lines) before now t status ⊎ IsFault status
+  exact_file {due} {t} {ls} {lines} file other root root' problems answers said same_name same_folder (by_files {answer = got} q x b) w known p u a =
+      let P : List ℕ → Type 0 = λ f. AnswersProblem f got due ls in
+      let Q : List ℕ → Type 0 = λ f. ProblemOf told f root' got in
+      let R : Option (List ℕ) → Type 0 = λ r. ProblemOf told file r got in
+      same_problem said answers w (subst P same_name b) a (problems told file root got said known (subst R same_folder (subst Q same_name q)) p u)
+
+module _ {words : List (List ℕ)} {told : List ℕ → Option (List ℕ)} {fb fn : ℕ} {failed before now : Option (List ℕ)} {Failed : Type 0} {status : Status} where
+  exact_by : {due t : Status} {ls lines : List (List ℕ)} → OneProblem → OneAnswer → (search : Search) (said : Answer) → AnswersCall words told fb fn failed due ls → IsWritten (concat ls) before now Failed due status →
+      IsCommand words search → AreTold told (file_of search) (root_of search) → ProblemOf told (file_of search) (root_of search) said → ¬ IsUnread said → AnswersProblem (file_of search) said t lines → IsGiven (concat lines) before now t status ⊎ IsFault status
+  exact_by problems answers search said (by_usage n) w command known p u a = absurd (n.no_search search command)
+  exact_by problems answers search said (by_request r) w command known p u a = absurd (no_request words search command r)
+  exact_by problems answers search said (by_memory c m) w command known p u a = inr (fault_stays w memory_out)
+  exact_by problems answers search said by_no_memory w command known p u a = inr (fault_stays w memory_out)
+  exact_by problems answers search said (by_problem {s = other} c b) w command known p u a =
+      exact_file (file_of search) (file_of other) (root_of search) (root_of other) problems answers said (same_file words other search c command) (same_root words other search c command) b w known p u a
+
+  pub answered_exact : OneProblem → OneAnswer → IsAnswered words told fb fn failed before now Failed status → (search : Search) (said : Answer) (t : Status) (lines : List (List ℕ)) →
+      IsCommand words search → AreTold told (file_of search) (root_of search) → ProblemOf told (file_of search) (root_of search) said → ¬ IsUnread said → AnswersProblem (file_of search) said t lines → IsGiven (concat lines) before now t status ⊎ IsFault status
+  answered_exact problems answers a search said t lines command known p u b = exact_by problems answers search said a.answers a.written command known p u b
 
   answered_refuted : (c : Bool) → IsAnswered words told fb fn failed before now Failed status → status ≡ status_by c → IsRefutable words told c
   answered_refuted c a e = elim (written_status a.written) [
@@ -278,19 +335,26 @@ module _ {words : List (List ℕ)} {told : List ℕ → Option (List ℕ)} {fb f
   pub answered_unsatisfiable : IsAnswered words told fb fn failed before now Failed status → status ≡ Unsatisfiable → IsRefutable words told false
   answered_unsatisfiable a e = answered_refuted false a e
 
-  pub answered_usage : IsAnswered words told fb fn failed before now Failed status → status ≡ UsageError → length words ≢ 2
+  pub answered_usage : IsAnswered words told fb fn failed before now Failed status → status ≡ UsageError → IsNoCommand words
   answered_usage a e = elim (written_status a.written) [
     | inl same ↦ usage_cause a.answers (sym same ∙ e)
     | inr w ↦ let k = sym w.0 ∙ e in absurd cc
   ]
 
-  pub answered_no_command : IsAnswered words told fb fn failed before now Failed status → length words ≢ 2 → (status ≡ UsageError) ⊎ IsFault status
-  answered_no_command a e = elim (no_command_cause a.answers e) [
-    | inl usage ↦ elim (written_status a.written) [
-      | inl same ↦ inl (same ∙ usage)
-      | inr w ↦ inr (let P : Status → Type 0 = IsFault in subst P (sym w.0) write_fault)
+  pub answered_shown : IsAnswered words told fb fn failed before now Failed status → status ≡ Shown → IsRequest (fault_of leo3_app words)
+  answered_shown a e = elim (written_status a.written) [
+    | inl same ↦ shown_cause a.answers (sym same ∙ e)
+    | inr w ↦ let k = sym w.0 ∙ e in absurd cc
+  ]
+
+  pub answered_no_command : IsAnswered words told fb fn failed before now Failed status → ((search : Search) → ¬ IsCommand words search) → (status ≡ UsageError) ⊎ ((status ≡ Shown) ⊎ IsFault status)
+  answered_no_command a none = elim (written_status a.written) [
+    | inl same ↦ elim (no_command_cause a.answers none) [
+      | inl usage ↦ inl (same ∙ usage)
+      | inr (inl shown) ↦ inr (inl (same ∙ shown))
+      | inr (inr fault) ↦ inr (inr (fault_stays a.written fault))
     ]
-    | inr fault ↦ inr (fault_stays a.written fault)
+    | inr w ↦ inr (inr (cut_fault w.0))
   ]
 
   pub answered_read_fault : IsAnswered words told fb fn failed before now Failed status → status ≡ OSError → IsUnreadable words told fb fn failed

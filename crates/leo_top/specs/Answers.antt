@@ -1,8 +1,12 @@
 -- What the prover answers: for what the files of a problem say, and for a call.
-use Rattle.std.specs.Prelude.{◌≡◌, ◌≢◌, ℕ, ◌<◌, Bool, List, [], ◌∷◌, ◌++◌, length, map, take, Option, Some, None, slice_get, codes, if◌then◌else◌}
+use Rattle.std.specs.Prelude.{◌≡◌, ◌⊎◌, ℕ, ◌<◌, Bool, List, [], ◌∷◌, ◌++◌, length, map, take, Option, Some, slice_get, codes, if◌then◌else◌}
 use Rattle.std.specs.Option.{option_map}
 use Rattle.std.specs.List.{concat}
+use Rattle.std.specs.String.{string_bytes}
+use Rattle.clap.specs.Words.{fault_of}
 use Rattle.leo_edge.specs.Outside.{HasRisen}
+use Rattle.leo_command.specs.declared.leo3.Search.{Search}
+use Rattle.leo_command.specs.Commands.{IsMistake, IsRequest, IsSearch, leo3_app}
 use Rattle.leo_q0.specs.Connectives.{false_term}
 use Rattle.leo_q0.specs.Derivations.{Derives}
 use Rattle.leo_problem.specs.declared.refusal.LoadRefusal.TheVariants.{Refused}
@@ -12,13 +16,13 @@ use Rattle.leo_problem.specs.Theories.{Theory, Answer, says, refused}
 use Rattle.leo_problem.specs.Loading.{ProblemOf}
 use Rattle.leo_problem.specs.Loading as loading
 use Rattle.leo_top.specs.declared.status.Status.{Status}
-use Rattle.leo_top.specs.declared.status.Status.TheVariants.{Theorem, Unsatisfiable, GaveUp, SyntaxError, TypeError, InputError, UsageError, OSError, WriteFault, MemoryOut}
+use Rattle.leo_top.specs.declared.status.Status.TheVariants.{Theorem, Unsatisfiable, GaveUp, SyntaxError, TypeError, InputError, UsageError, OSError, WriteFault, MemoryOut, Shown}
 use Rattle.leo_top.specs.Problem.{Hypothesis, formulas, IsFirstForm}
 use Rattle.leo_top.specs.Pairs.{IsFirstPair, HasNoPair, different}
 use Rattle.leo_top.specs.Refusals.{refused_status}
 use Rattle.leo_top.specs.Texts.{status_line, refuted_lines, exhausted_lines, noted_lines, refused_lines}
 
--- the word of a status, after the SZS ontology
+-- the word of a status, after the SZS ontology; a text that was asked for has no status line
 abbrev pub status_word : Status → List ℕ
 status_word Theorem = codes "Theorem"
 status_word Unsatisfiable = codes "Unsatisfiable"
@@ -30,6 +34,7 @@ status_word UsageError = codes "UsageError"
 status_word OSError = codes "OSError"
 status_word WriteFault = codes "WriteFault"
 status_word MemoryOut = codes "MemoryOut"
+status_word Shown = codes "Shown"
 
 -- the exit code of a status
 abbrev pub code_of : Status → ℕ
@@ -43,11 +48,24 @@ code_of UsageError = 3
 code_of OSError = 4
 code_of WriteFault = 5
 code_of MemoryOut = 6
+code_of Shown = 0
 
--- the words are the program's name and the file
-pub record IsCommand (words : List (List ℕ)) (file : List ℕ) : Type 0 where
-  pub two : length words ≡ 2
-  pub named : slice_get words 1 ≡ Some file
+-- the words ask for this search, without child provers: none are run yet
+pub record IsCommand (words : List (List ℕ)) (s : Search) : Type 0 where
+  pub asked : IsSearch words s
+  pub alone : s.settings.children ≡ 0
+
+-- the file of a search, and the folder of included files
+abbrev pub file_of : Search → List ℕ
+file_of s = string_bytes s.file
+
+abbrev pub root_of : Search → Option (List ℕ)
+root_of s = option_map string_bytes s.root
+
+-- the words ask for no such search, and for no text
+pub record IsNoCommand (words : List (List ℕ)) : Type 0 where
+  pub no_search : (s : Search) → ¬ IsCommand words s
+  pub no_request : IsMistake (fault_of leo3_app words) ⊎ (fault_of leo3_app words ≡ [])
 
 -- the status of a refutation: the conjecture follows, or what is assumed has no model
 abbrev pub refuted_status : Bool → Status
@@ -75,22 +93,27 @@ abbrev pub IsExcused : ℕ → ℕ → Option (List ℕ) → Answer → Type 0
 IsExcused before now failed (says t) = Unit {0}
 IsExcused before now failed (refused r) = loading.IsFault before now failed r
 
+-- the answer to the problem of a file, with a folder of included files: its status and its lines
+pub data AnswersFile (file : List ℕ) (root : Option (List ℕ)) (told : List ℕ → Option (List ℕ)) (before now : ℕ) (failed : Option (List ℕ)) :
+    Status → List (List ℕ) → Type 0 where
+  by_files : {answer : Answer} {status : Status} {lines : List (List ℕ)} → ProblemOf told file root answer → IsExcused before now failed answer →
+      AnswersProblem file answer status lines → AnswersFile file root told before now failed status lines
+
 -- the lines that say that no memory was found: for the file, or for the program
-pub data SaysNoMemory (words : List (List ℕ)) : List (List ℕ) → Type 0 where
-  for_file : {file : List ℕ} → IsCommand words file →
-      SaysNoMemory words (status_line (status_word MemoryOut) file ∷ [])
-  for_program : SaysNoMemory words (status_line (status_word MemoryOut) (codes "leo3") ∷ [])
+pub data SaysNoMemory (file : List ℕ) : List (List ℕ) → Type 0 where
+  for_file : SaysNoMemory file (status_line (status_word MemoryOut) file ∷ [])
+  for_program : SaysNoMemory file (status_line (status_word MemoryOut) (codes "leo3") ∷ [])
 
 -- the answer to a call: its status and its lines, by the words, the contents that are told, and the counts of faults
 -- and the last failure of the files
 pub data AnswersCall (words : List (List ℕ)) (told : List ℕ → Option (List ℕ)) (before now : ℕ) (failed : Option (List ℕ)) :
     Status → List (List ℕ) → Type 0 where
-  by_usage : length words ≢ 2 →
-      AnswersCall words told before now failed UsageError (status_line (status_word UsageError) (codes "leo3") ∷ [])
-  by_problem : {file : List ℕ} {answer : Answer} {status : Status} {lines : List (List ℕ)} → IsCommand words file →
-      ProblemOf told file None answer → IsExcused before now failed answer → AnswersProblem file answer status lines →
-      AnswersCall words told before now failed status lines
-  by_memory : {lines : List (List ℕ)} → SaysNoMemory words lines → AnswersCall words told before now failed MemoryOut lines
+  by_usage : IsNoCommand words → AnswersCall words told before now failed UsageError (status_line (status_word UsageError) (codes "leo3") ∷ [])
+  by_request : {text : List ℕ} → IsRequest (fault_of leo3_app words) → AnswersCall words told before now failed Shown (text ∷ [])
+  by_problem : {s : Search} {status : Status} {lines : List (List ℕ)} → IsCommand words s →
+      AnswersFile (file_of s) (root_of s) told before now failed status lines → AnswersCall words told before now failed status lines
+  by_memory : {s : Search} {lines : List (List ℕ)} → IsCommand words s → SaysNoMemory (file_of s) lines → AnswersCall words told before now failed MemoryOut lines
+  by_no_memory : AnswersCall words told before now failed MemoryOut (status_line (status_word MemoryOut) (codes "leo3") ∷ [])
 
 -- a sink took a part of the text, and not all of it
 pub record IsCut (text : List ℕ) (before now : Option (List ℕ)) : Type 0 where
@@ -125,22 +148,22 @@ pub record IsGiven (text : List ℕ) (before now : Option (List ℕ)) (due statu
 -- the files of the problem that the words name say a theory of the first form, with a conjecture or without, and falsity
 -- is derivable in Q0 with choice from what it assumes
 pub record IsRefutable (words : List (List ℕ)) (told : List ℕ → Option (List ℕ)) (conjectured : Bool) : Type 0 where
-  pub file : List ℕ
+  pub search : Search
   pub theory : Theory
   pub hypotheses : List Hypothesis
-  pub command : IsCommand words file
-  pub said : ProblemOf told file None (says theory)
+  pub command : IsCommand words search
+  pub said : ProblemOf told (file_of search) (root_of search) (says theory)
   pub form : IsFirstForm theory hypotheses
   pub conjecture_is : theory.conjecture ≡ conjectured
   pub derived : Derives (map (λ h. h.formula) theory.hypotheses) false_term
 
 -- a file that the problem asks for could not be read: the count of faults rose, and its fetch failed last
 pub record IsUnreadable (words : List (List ℕ)) (told : List ℕ → Option (List ℕ)) (before now : ℕ) (failed : Option (List ℕ)) : Type 0 where
-  pub file : List ℕ
+  pub search : Search
   pub about : List ℕ
   pub byte : ℕ
-  pub command : IsCommand words file
-  pub said : ProblemOf told file None (refused (Refused about byte ReadFault))
+  pub command : IsCommand words search
+  pub said : ProblemOf told (file_of search) (root_of search) (refused (Refused about byte ReadFault))
   pub risen : HasRisen before now
   pub failed_is : failed ≡ Some about
 

@@ -1,6 +1,10 @@
 //! The call that answers a command.
-ghost use Rattle.std.specs.Prelude.{◌≡◌, ◌⊎◌, ℕ, List, [], ◌∷◌, length, codes, true, false, IfOk, None};
+ghost use Rattle.std.specs.Prelude.{◌≡◌, ◌⊎◌, ℕ, List, [], ◌∷◌, codes, true, false, IfOk};
 ghost use Rattle.std.specs.List.{concat};
+ghost use Rattle.std.specs.Option.{option_copied};
+ghost use Rattle.clap.specs.Words.{fault_of};
+ghost use Rattle.leo_command.specs.Commands.{IsRequest, leo3_app};
+ghost use Rattle.leo_command.specs.declared.leo3.Search.{Search};
 ghost use Rattle.leo_edge.specs.Outside.{HasRisen};
 ghost use Rattle.leo_problem.specs.Laws.{AreTold, IsUnread};
 ghost use Rattle.leo_problem.specs.Loading.{ProblemOf};
@@ -8,11 +12,12 @@ ghost use Rattle.leo_problem.specs.Theories.{Answer};
 ghost use Rattle.leo_top.specs.Answers as answers;
 ghost use Rattle.leo_top.specs.Texts.{status_line};
 
-use crate::answer::answer_words;
+use crate::answer::answer_file;
 use crate::laws::answers_are_unique;
 use crate::status::Status;
 use crate::texts::add_status;
 use crate::writing::put_text;
+use leo_command::{Asked, CommandRefusal, Search, leo3_asked};
 use leo_edge::{Files, Sink, Words};
 use leo_problem::laws::problems_are_unique;
 use std::alloc::{AllocError, Global};
@@ -56,25 +61,56 @@ fn memory_line(alloc: Global, subject: &[u8]) -> Result<Vec<u8>, AllocError>
     Ok(text)
 }
 
-// The text that says that no memory was found.
-fn memory_text(alloc: Global, words: &Words) -> Result<Vec<u8>, AllocError>
-    ensures { IfOk result (λ v. answers.IsMadeOf (answers.SaysNoMemory words.now) v.items) }
+// Puts the line that says that no memory was found, for the program.
+fn no_memory<O: Sink>(out: &mut O) -> Alone
+    ensures code { result.code ≡ answers.code_of result.status }
+    ensures written { answers.IsWritten (concat (status_line (codes "MemoryOut") (codes "leo3") ∷ [])) (O.taken out.old) (O.taken out.new) (HasRisen (O.faults out.old) (O.faults out.new)) Status.MemoryOut result.status }
 {
-    if words.len() == 2 {
-        memory_line(alloc, words.word(1).as_bytes())
-    } else {
-        memory_line(alloc, b"leo3")
+    written(out, Status::MemoryOut, b"% SZS status MemoryOut for leo3\n")
+}
+
+// Puts the line that says that no memory was found, for the file where there is room for it.
+fn without_memory<O: Sink>(alloc: Global, file: &str, out: &mut O) -> Alone
+    ensures code { result.code ≡ answers.code_of result.status }
+    ensures written { (lines : List (List ℕ)) × answers.SaysNoMemory file.now lines × answers.IsWritten (concat lines) (O.taken out.old) (O.taken out.new) (HasRisen (O.faults out.old) (O.faults out.new)) Status.MemoryOut result.status }
+{
+    match memory_line(alloc, file.as_bytes()) {
+        Ok(text) => written(out, Status::MemoryOut, &text),
+        Err(_) => no_memory(out),
     }
 }
 
-// Puts the text that says that no memory was found.
-fn without_memory<O: Sink>(alloc: Global, words: &Words, out: &mut O) -> Alone
+// Puts the line that says that the words are no command.
+fn usage<O: Sink>(out: &mut O) -> Alone
     ensures code { result.code ≡ answers.code_of result.status }
-    ensures written { (lines : List (List ℕ)) × answers.SaysNoMemory words.now lines × answers.IsWritten (concat lines) (O.taken out.old) (O.taken out.new) (HasRisen (O.faults out.old) (O.faults out.new)) Status.MemoryOut result.status }
+    ensures written { answers.IsWritten (concat (status_line (codes "UsageError") (codes "leo3") ∷ [])) (O.taken out.old) (O.taken out.new) (HasRisen (O.faults out.old) (O.faults out.new)) Status.UsageError result.status }
 {
-    match memory_text(alloc, words) {
-        Ok(text) => written(out, Status::MemoryOut, &text),
-        Err(_) => written(out, Status::MemoryOut, b"% SZS status MemoryOut for leo3\n"),
+    written(
+        out,
+        Status::UsageError,
+        b"% SZS status UsageError for leo3\n",
+    )
+}
+
+// The folder of included files, if one is named.
+fn root_of(search: &Search) -> Option<&str>
+    ensures { option_copied result ≡ answers.root_of search.now }
+{
+    match &search.root {
+        Some(root) => Some(root.as_str()),
+        None => None,
+    }
+}
+
+// Answers for the problem of a search, and puts the answer.
+fn searched<F: Files, O: Sink>(alloc: Global, search: &Search, files: &mut F, out: &mut O) -> Alone
+    ensures code { result.code ≡ answers.code_of result.status }
+    ensures answer { (words : List (List ℕ)) → answers.IsCommand words search.now → answers.IsAnswered words (F.content files.old) (F.faults files.old) (F.faults files.new) (F.failed files.new) (O.taken out.old) (O.taken out.new) (HasRisen (O.faults out.old) (O.faults out.new)) result.status }
+{
+    let file = search.file.as_str();
+    match answer_file(alloc, file, root_of(search), files) {
+        Ok(answer) => written(out, answer.status, &answer.text),
+        Err(_) => without_memory(alloc, file, out),
     }
 }
 
@@ -83,16 +119,25 @@ fn answered<F: Files, O: Sink>(alloc: Global, words: &Words, files: &mut F, out:
     ensures code { result.code ≡ answers.code_of result.status }
     ensures answer { answers.IsAnswered words.now (F.content files.old) (F.faults files.old) (F.faults files.new) (F.failed files.new) (O.taken out.old) (O.taken out.new) (HasRisen (O.faults out.old) (O.faults out.new)) result.status }
 {
-    match answer_words(alloc, words, files) {
-        Ok(answer) => written(out, answer.status, &answer.text),
-        Err(_) => without_memory(alloc, words, out),
+    match leo3_asked(alloc, words) {
+        Ok(Asked::Work(search)) => {
+            if search.settings.children == 0 {
+                searched(alloc, &search, files, out)
+            } else {
+                usage(out)
+            }
+        }
+        Ok(Asked::Print(text)) => written(out, Status::Shown, text.as_bytes()),
+        Err(CommandRefusal::Usage) => usage(out),
+        Err(CommandRefusal::Memory) => no_memory(out),
     }
 }
 
 /// Answers the words of a command: loads the problem that they name, and puts the answer line by line.
 ///
-/// The words are the program's name and the problem's file. A problem has the first form where it has at
-/// most 1,000 statements and each hypothesis is a symbol or the negation of one; that of a conjecture is
+/// The words are those of `leo3`, as [`leo_command::leo3_asked`] reads them; of its options only `--root` is used yet, and
+/// `--children` must be 0. `--help` and `--version` put their text, with status `Shown`. A problem has the first form
+/// where it has at most 1,000 statements and each hypothesis is a symbol or the negation of one; that of a conjecture is
 /// negated once more. Such a problem gives a derivation exactly where one of its hypotheses is the
 /// negation of another, as `Theorem` where there is a conjecture and as `Unsatisfiable` where there is
 /// none, and else `GaveUp`. A problem that is refused is a `SyntaxError`, a `TypeError` or an
@@ -106,23 +151,19 @@ pub fn leo3_alone<F: Files, O: Sink>(
     out: &mut O,
 ) -> Alone
     ensures code { result.code ≡ answers.code_of result.status }
-
     // The bytes put are those of the answer to these words and these files, or a part of them.
     ensures answer { answers.IsAnswered words.now (F.content files.old) (F.faults files.old) (F.faults files.new) (F.failed files.new) (O.taken out.old) (O.taken out.new) (HasRisen (O.faults out.old) (O.faults out.new)) result.status }
-
     // Where the contents of all files that may be asked for are told, the answer to what they say is given, unless a
     // fault stands in the way.
-    ensures exact { (file : List ℕ) (said : Answer) (status : Status) (lines : List (List ℕ)) → answers.IsCommand words.now file → AreTold (F.content files.old) file None → ProblemOf (F.content files.old) file None said → ¬ IsUnread said → answers.AnswersProblem file said status lines → answers.IsGiven (concat lines) (O.taken out.old) (O.taken out.new) status result.status ⊎ answers.IsFault result.status }
-
+    ensures exact { (search : Search) (said : Answer) (status : Status) (lines : List (List ℕ)) → answers.IsCommand words.now search → AreTold (F.content files.old) (answers.file_of search) (answers.root_of search) → ProblemOf (F.content files.old) (answers.file_of search) (answers.root_of search) said → ¬ IsUnread said → answers.AnswersProblem (answers.file_of search) said status lines → answers.IsGiven (concat lines) (O.taken out.old) (O.taken out.new) status result.status ⊎ answers.IsFault result.status }
     // A theorem's conjecture follows: with its negation, falsity is derivable.
     ensures theorem { result.status ≡ Status.Theorem → answers.IsRefutable words.now (F.content files.old) true }
-
     // Without a conjecture, falsity is derivable from what is assumed.
     ensures unsatisfiable { result.status ≡ Status.Unsatisfiable → answers.IsRefutable words.now (F.content files.old) false }
-
     // Each other cause.
-    ensures usage { result.status ≡ Status.UsageError → ¬ (length words.now ≡ 2) }
-    ensures no_command { ¬ (length words.now ≡ 2) → (result.status ≡ Status.UsageError) ⊎ answers.IsFault result.status }
+    ensures usage { result.status ≡ Status.UsageError → answers.IsNoCommand words.now }
+    ensures no_command { ((search : Search) → ¬ answers.IsCommand words.now search) → (result.status ≡ Status.UsageError) ⊎ ((result.status ≡ Status.Shown) ⊎ answers.IsFault result.status) }
+    ensures shown { result.status ≡ Status.Shown → IsRequest (fault_of leo3_app words.now) }
     ensures read_fault { result.status ≡ Status.OSError → answers.IsUnreadable words.now (F.content files.old) (F.faults files.old) (F.faults files.new) (F.failed files.new) }
     ensures write_fault { result.status ≡ Status.WriteFault → HasRisen (O.faults out.old) (O.faults out.new) }
 {

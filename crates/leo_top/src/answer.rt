@@ -1,6 +1,7 @@
 //! Answers to problems and to words, made whole.
 ghost use Rattle.std.specs.Prelude.{◌≡◌, IfOk, ◌∷◌, [], codes};
 ghost use Rattle.std.specs.List.{concat};
+ghost use Rattle.std.specs.Option.{option_copied};
 ghost use Rattle.leo_problem.specs.Loading.{IsProblem, theory_of};
 ghost use Rattle.leo_problem.specs.Theories.{says};
 ghost use Rattle.leo_top.specs.Answers as answers;
@@ -13,7 +14,7 @@ use crate::pairs::{different, first_pair};
 use crate::refusal::refused_status;
 use crate::status::Status;
 use crate::texts::{add_cause, add_note, add_output, add_status, add_turns};
-use leo_edge::{Files, Words};
+use leo_edge::Files;
 use leo_problem::{LoadRefusal, Problem, What, load};
 use std::alloc::{AllocError, Global};
 
@@ -149,32 +150,16 @@ fn answer_problem(alloc: Global, file: &[u8], problem: &Problem) -> Result<Answe
     answer_hypotheses(alloc, file, problem.conjecture, &hypotheses)
 }
 
-// The answer to words that are no command.
-fn usage(alloc: Global) -> Result<Answer, AllocError>
-    ensures status { IfOk result (λ a. a.status ≡ Status.UsageError) }
-    ensures text { IfOk result (λ a. a.text.items ≡ concat (texts.status_line (codes "UsageError") (codes "leo3") ∷ [])) }
-{
-    let mut text = Vec::new(alloc);
-    add_status(alloc, &mut text, Status::UsageError, b"leo3")?;
-    Ok(Answer {
-        status: Status::UsageError,
-        text,
-    })
-}
-
-/// The answer to the words of a command.
-pub fn answer_words<F: Files>(
+/// The answer to the problem of this file, with this folder of included files.
+pub fn answer_file<F: Files>(
     alloc: Global,
-    words: &Words,
+    file: &str,
+    root: Option<&str>,
     files: &mut F,
 ) -> Result<Answer, AllocError>
-    ensures { IfOk result (λ a. answers.IsMadeOf (answers.AnswersCall words.now (F.content files.old) (F.faults files.old) (F.faults files.new) (F.failed files.new) a.status) a.text.items) }
+    ensures { IfOk result (λ a. answers.IsMadeOf (answers.AnswersFile file.now (option_copied root.entry) (F.content files.old) (F.faults files.old) (F.faults files.new) (F.failed files.new) a.status) a.text.items) }
 {
-    if words.len() != 2 {
-        return usage(alloc);
-    }
-    let file = words.word(1);
-    match load(alloc, files, file, None) {
+    match load(alloc, files, file, root) {
         Ok(problem) => answer_problem(alloc, file.as_bytes(), &problem),
         Err(
             LoadRefusal::Refused {

@@ -23,6 +23,8 @@ pub enum Status {
     WriteFault,
     /// No memory was found.
     MemoryOut,
+    /// A text was asked for, that of `--help` or of `--version`, and was written.
+    Shown,
 }
 
 impl Status {
@@ -44,6 +46,7 @@ impl Status {
             Status::OSError => 4,
             Status::WriteFault => 5,
             Status::MemoryOut => 6,
+            Status::Shown => 0,
         }
     }
 
@@ -62,6 +65,7 @@ impl Status {
             Status::OSError => b"OSError",
             Status::WriteFault => b"WriteFault",
             Status::MemoryOut => b"MemoryOut",
+            Status::Shown => b"Shown",
         }
     }
 }

@@ -249,18 +249,71 @@ thf(l1,plain,( ( ~ q ) = $true ),inference(axiom,[status(thm),ev(0)],[h0])).
     Ok(())
 }
 
+/// Words with single spaces between, and the status and the first line of their answer.
+const WORDS: [(&str, Status, &str); 9] = [
+    (
+        "leo3",
+        Status::UsageError,
+        "% SZS status UsageError for leo3",
+    ),
+    (
+        "leo3 p.p q.p",
+        Status::UsageError,
+        "% SZS status UsageError for leo3",
+    ),
+    (
+        "leo3 --turns 0 p.p",
+        Status::UsageError,
+        "% SZS status UsageError for leo3",
+    ),
+    (
+        "leo3 --children 2 p.p",
+        Status::UsageError,
+        "% SZS status UsageError for leo3",
+    ),
+    (
+        "leo3 --children 0 p.p",
+        Status::Theorem,
+        "% SZS status Theorem for p.p",
+    ),
+    (
+        "leo3 --turns 5 --depth 2 p.p",
+        Status::Theorem,
+        "% SZS status Theorem for p.p",
+    ),
+    (
+        "leo3 p.p --root r",
+        Status::Theorem,
+        "% SZS status Theorem for p.p",
+    ),
+    ("leo3 --version", Status::Shown, "leo3 0.1.0"),
+    (
+        "leo3 --help p.p",
+        Status::Shown,
+        "Looks for a refutation of a TPTP problem in higher-order logic (THF0)",
+    ),
+];
+
+/// The words of a line, between which there are single spaces.
+fn line_command(alloc: Global, line: &str) -> Result<Words, AllocError> {
+    let mut command = Words::new(alloc);
+    for word in line.split(' ') {
+        command.push(word)?;
+    }
+    Ok(command)
+}
+
 #[test]
-fn words_that_are_no_command(rt: HostRuntime) -> Result<(), Fail> {
-    let mut files = MemFiles::new(rt.alloc());
-    let mut out = MemSink::new(rt.alloc());
-    let words = command(rt.alloc(), &["leo3"])?;
-    let alone = leo3_alone(rt.alloc(), &words, &mut files, &mut out);
-    assert_eq!(rt; alone.status, Status::UsageError);
-    assert_eq!(rt; alone.code, 3);
-    assert_eq!(rt;
-        out.taken.as_slice(),
-        b"% SZS status UsageError for leo3\n".as_slice()
-    );
+fn words_of_the_command(rt: HostRuntime) -> Result<(), Fail> {
+    for (line, status, first) in WORDS.iter() {
+        let mut files = MemFiles::new(rt.alloc());
+        files.add("p.p", THEOREM)?;
+        let mut out = MemSink::new(rt.alloc());
+        let words = line_command(rt.alloc(), line)?;
+        let alone = leo3_alone(rt.alloc(), &words, &mut files, &mut out);
+        assert_eq!(rt; alone.status, *status);
+        assert!(rt; out.taken.as_slice().starts_with(first.as_bytes()));
+    }
     Ok(())
 }
 
@@ -374,6 +427,14 @@ fn includes(rt: HostRuntime) -> Result<(), Fail> {
     let alone = leo3_alone(rt.alloc(), &words, &mut files, &mut out);
     assert_eq!(rt; alone.status, Status::Theorem);
     assert_eq!(rt; out.taken.as_slice(), INCLUDING_REFUTED);
+
+    // In a root the include is another file.
+    let mut out = MemSink::new(rt.alloc());
+    let rooted = command(rt.alloc(), &["leo3", "--root", "r", "w/p.p"])?;
+    let alone = leo3_alone(rt.alloc(), &rooted, &mut files, &mut out);
+    assert_eq!(rt; alone.status, Status::OSError);
+    let missing = b"% SZS status OSError for w/p.p\n% leo3: r/p.ax: read fault\n";
+    assert_eq!(rt; out.taken.as_slice(), missing.as_slice());
     Ok(())
 }
 

@@ -1,4 +1,4 @@
-use Rattle.leo_top.proofs.Ending.{answered_exact, answered_theorem, answered_unsatisfiable, answered_usage, answered_no_command, answered_read_fault, answered_write_fault}
+use Rattle.leo_top.proofs.Ending.{answered_exact, answered_theorem, answered_unsatisfiable, answered_usage, answered_no_command, answered_shown, answered_read_fault, answered_write_fault}
 use Rattle.leo_top.proofs.alone.leo3_alone.Goals as goal
 
 pub returns-clause-exact : goal.returns-clause-exact
@@ -21,3 +21,6 @@ returns-clause-read_fault g c = answered_read_fault c.answered.ensures.answer
 
 pub returns-clause-write_fault : goal.returns-clause-write_fault
 returns-clause-write_fault g c = answered_write_fault c.answered.ensures.answer
+
+pub returns-clause-shown : goal.returns-clause-shown
+returns-clause-shown g c = answered_shown c.answered.ensures.answer
