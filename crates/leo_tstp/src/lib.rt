@@ -1,0 +1,12 @@
+//! Derivations as text in TPTP's language TSTP.
+#![tactic(auto)]
+
+mod clauses;
+mod hypotheses;
+mod namer;
+mod printing;
+mod rules;
+mod terms;
+mod words;
+
+pub use printing::print;
