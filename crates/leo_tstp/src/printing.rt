@@ -1,6 +1,6 @@
 //! Derivations as they are written.
 
-ghost use Rattle.std.specs.Prelude.{◌≡◌, ◌++◌, ◌<◌, length, map, OnOk, IfOk, IfSome};
+ghost use Rattle.std.specs.Prelude.{◌≡◌, ◌++◌, ◌<◌, length, map, OnErr, OnOk, IfOk, IfSome};
 ghost use Rattle.leo_terms.specs.Contents.{symbol_type, type_at};
 ghost use Rattle.leo_clause.specs.Typed.{IsClauseOf};
 ghost use Rattle.leo_kernel.specs.Records.{AreStepsOf, IsStepOf};
@@ -169,11 +169,33 @@ fn write_lines(
     Ok(())
 }
 
-/// Appends the text of a derivation from the hypotheses of a problem: the hypotheses that its lines take, and the lines,
-/// each abbreviation behind the type statement of its symbol. A base type and a symbol have the word of an atom that
-/// the problem declares as it, or the name that an abbreviation gave it before; without either they have none. Where
-/// it answers that there is no memory, what was there is a front of what is there.
+/// The text of a derivation.
 #[tactic(auto, unfolding(crate::specs::Derivations::printed))]
+fn text_of(alloc: Global, problem: &Problem, lines: &[StepRecord]) -> Result<Vec<u8>, AllocError>
+    requires problem { IsProblem problem.now }
+    requires lines { AreStepsOf problem.now.bank lines.now }
+    requires symbols { AreSymbolsOf problem.now.bank lines.now }
+    ensures { IfOk result (λ text. text.items ≡ printed problem.now lines.now) }
+{
+    let mut text = Vec::new(alloc);
+    let mut namer = Namer::new(alloc, problem)?;
+    let bank = &problem.bank;
+    write_hypotheses(
+        alloc,
+        bank,
+        &namer,
+        problem.hyps.as_slice(),
+        lines,
+        &mut text,
+    )?;
+    write_lines(alloc, bank, &mut namer, lines, &mut text)?;
+    Ok(text)
+}
+
+/// Appends the text of a derivation from the hypotheses of a problem: the hypotheses that its lines take, and the lines,
+/// each abbreviation behind the type statement of its symbol. A base type and a symbol have the word of the first atom
+/// that the problem declares as it, a symbol that was abbreviated has its new name from there on, and what has no name
+/// is left out. Where it answers that there is no memory, nothing is appended.
 pub fn print(
     alloc: Global,
     problem: &Problem,
@@ -183,10 +205,9 @@ pub fn print(
     requires problem { IsProblem problem.now }
     requires lines { AreStepsOf problem.now.bank lines.now }
     requires symbols { AreSymbolsOf problem.now.bank lines.now }
-    ensures { OnOk result (out.new.items ≡ out.old.items ++ printed problem.now lines.now) }
+    ensures ok { OnOk result (out.new.items ≡ out.old.items ++ printed problem.now lines.now) }
+    ensures err { OnErr result (out.new.items ≡ out.old.items) }
 {
-    let mut namer = Namer::new(alloc, problem)?;
-    let bank = &problem.bank;
-    write_hypotheses(alloc, bank, &namer, problem.hyps.as_slice(), lines, out)?;
-    write_lines(alloc, bank, &mut namer, lines, out)
+    let text = text_of(alloc, problem, lines)?;
+    out.extend_from_slice(&text)
 }
