@@ -6,3 +6,4 @@ pub mod StepTexts
 pub mod Derivations
 pub mod Records
 pub mod Namings
+pub mod Laws

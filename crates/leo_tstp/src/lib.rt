@@ -3,6 +3,7 @@
 
 mod clauses;
 mod hypotheses;
+pub mod laws;
 mod namer;
 mod printing;
 mod rules;
