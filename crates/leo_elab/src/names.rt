@@ -1,6 +1,6 @@
 //! What the atoms of a problem are.
 
-ghost use Rattle.std.specs.Prelude.{◌≡◌, ◌++◌, ◌∷◌, [], OnOk, None};
+ghost use Rattle.std.specs.Prelude.{◌≡◌, ◌++◌, ◌∷◌, [], map, OnOk, None};
 ghost use Rattle.std.specs.Option.{option_map};
 ghost use Rattle.leo_elab.specs.Problem.{named};
 ghost use Rattle.leo_elab.specs.Table.{atom_of};
@@ -38,6 +38,20 @@ impl Names {
             types: IndexMap::new(alloc),
             constants: IndexMap::new(alloc),
         }
+    }
+
+    /// The atoms that are types, in the order in which they were declared.
+    pub fn types(&self) -> &IndexMap<Vec<u8>, TyId>
+        ensures { map (λ p. (p.0.items, p.1)) result.now.entries ≡ self.now.types }
+    {
+        &self.types
+    }
+
+    /// The atoms that are constants, in the order in which they were declared.
+    pub fn constants(&self) -> &IndexMap<Vec<u8>, SymId>
+        ensures { map (λ p. (p.0.items, p.1)) result.now.entries ≡ self.now.constants }
+    {
+        &self.constants
     }
 
     /// The type that an atom is, if it is one.

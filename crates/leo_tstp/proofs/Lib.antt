@@ -1,0 +1,3 @@
+pub mod Writing
+pub mod Wording
+pub mod Prefixes
