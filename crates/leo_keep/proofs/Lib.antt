@@ -3,7 +3,7 @@ mod Replacements
 mod Bindings
 mod Narrowing
 mod Unique
-mod Tests
+mod Comparing
 mod Opposing
 mod Replaced
 mod Measures

@@ -13,7 +13,7 @@ use Rattle.leo_clause.proofs.Same.{same_tree-refl}
 use Rattle.leo_keep.specs.declared.matching.Binding.{Binding}
 use Rattle.leo_keep.specs.Matching.{AreBindings, BothFit, Fits, IsGivenAt, IsNoApplication, IsNoConstant, IsNoLambda, IsOverSome, Narrows}
 use Rattle.leo_keep.proofs.Numbers.{get-within, number-decides}
-use Rattle.leo_keep.proofs.Tests.{equal-connectives}
+use Rattle.leo_keep.proofs.Comparing.{equal-connectives}
 use Rattle.leo_keep.proofs.Replacements.{depth-same, given-variable, replacement-at, still-present, weight-grows}
 use Rattle.leo_keep.proofs.Narrowing.{always, both, decided, first_fails, like, never}
 

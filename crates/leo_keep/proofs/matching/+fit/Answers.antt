@@ -1,7 +1,7 @@
 use Rattle.std.proofs.Common.{length, map, refl, arith}
 use Rattle.leo_terms.specs.Contents.{type_at, tree_at, connective, argument}
 use Rattle.leo_terms.proofs.CallerLemmas.{reads-var, reads-bound, reads-sym, reads-app, reads-lam, reads-logic, term-present, arrow-parts}
-use Rattle.leo_keep.proofs.Tests.{argument-raised}
+use Rattle.leo_keep.proofs.Comparing.{argument-raised}
 use Rattle.leo_keep.proofs.Measures.{argument_measure-falls}
 use Rattle.leo_keep.proofs.Matched.{app-first, app-fits, app-other, ground-fits, lam-apart, lam-fits, lam-other, logic-apart, logic-first, logic-fits, logic-other, never-nothing, nothing-fits, over-argument, over-body, over-first, over-function, over-second, over-variable, types-apart, types-same, variable-fits, variable-within}
 use Rattle.leo_keep.proofs.matching.+fit.Goals as goal

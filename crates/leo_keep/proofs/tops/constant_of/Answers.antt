@@ -1,6 +1,6 @@
 use Rattle.std.proofs.Common.{length}
 use Rattle.leo_terms.proofs.CallerLemmas.{reads-var, reads-bound, reads-sym, reads-app, reads-lam, reads-logic}
-use Rattle.leo_keep.proofs.Tests.{argument-raised}
+use Rattle.leo_keep.proofs.Comparing.{argument-raised}
 use Rattle.leo_keep.proofs.tops.constant_of.Goals as goal
 
 pub returns-in-Var : goal.returns-in-Var

@@ -1,6 +1,6 @@
 use Rattle.leo_terms.proofs.CallerLemmas.{term-typed}
 use Rattle.leo_keep.proofs.Numbers.{yes}
-use Rattle.leo_keep.proofs.Tests.{false-alone}
+use Rattle.leo_keep.proofs.Comparing.{false-alone}
 use Rattle.leo_keep.proofs.tops.is_false.Goals as goal
 
 pub returns-in-False : goal.returns-in-False

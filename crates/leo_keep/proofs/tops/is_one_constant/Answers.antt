@@ -1,4 +1,4 @@
-use Rattle.leo_keep.proofs.Tests.{same-types}
+use Rattle.leo_keep.proofs.Comparing.{same-types}
 use Rattle.leo_keep.proofs.tops.is_one_constant.Goals as goal
 
 pub returns-in-Eq-other : goal.returns-in-Eq-other

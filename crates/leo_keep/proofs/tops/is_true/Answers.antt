@@ -1,6 +1,6 @@
 use Rattle.leo_terms.proofs.CallerLemmas.{term-typed}
 use Rattle.leo_keep.proofs.Numbers.{yes}
-use Rattle.leo_keep.proofs.Tests.{true-alone}
+use Rattle.leo_keep.proofs.Comparing.{true-alone}
 use Rattle.leo_keep.proofs.tops.is_true.Goals as goal
 
 pub returns-in-True : goal.returns-in-True

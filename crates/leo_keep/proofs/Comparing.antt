@@ -1,4 +1,4 @@
--- Tests on terms and constants of a bank.
+-- Comparing types and constants of a bank.
 use Rattle.std.proofs.Common.{ℕ, nat_eq, ◌≡◌, ◌∙◌, ◌<◌, Bool, true, false, length, Option, Some, None, refl, sym, arith}
 use Rattle.leo_q0.specs.Terms.{same_type}
 use Rattle.leo_q0.proofs.Variables.{same_type-refl, equal_types}
