@@ -1,0 +1,14 @@
+mod Numbers
+mod Replacements
+mod Bindings
+mod Narrowing
+mod Unique
+mod Comparing
+mod Opposing
+mod Replaced
+mod Measures
+mod Among
+mod Clauses
+mod Admitting
+mod Joining
+mod Matched

@@ -1,0 +1,28 @@
+use Rattle.std.proofs.Common.{arith}
+use Rattle.leo_terms.proofs.CallerLemmas.{reads-var, reads-bound, reads-sym, reads-app, reads-lam, reads-logic, arrow-parts}
+use Rattle.leo_keep.proofs.tops.lambda_of.Goals as goal
+
+pub returns-in-Var : goal.returns-in-Var
+returns-in-Var c = λ a x e. (let k = reads-var c.in-Var.ensures.sound c.args.t c.in-Var.field-0 c.in-Var.ensures.view in let z : ⊥ = cc in z)
+
+pub returns-in-Bound : goal.returns-in-Bound
+returns-in-Bound c = λ a x e. (let k = reads-bound c.in-Bound.ensures.sound c.args.t c.in-Bound.field-0 c.in-Bound.ensures.view in let z : ⊥ = cc in z)
+
+pub returns-in-Sym : goal.returns-in-Sym
+returns-in-Sym c = λ a x e. (let k = reads-sym c.in-Sym.ensures.sound c.args.t c.in-Sym.field-0 c.in-Sym.ensures.view in let z : ⊥ = cc in z)
+
+pub returns-in-App : goal.returns-in-App
+returns-in-App c = λ a x e. (let k = reads-app c.in-App.ensures.sound c.args.t c.in-App.field-0 c.in-App.field-1 c.in-App.ensures.view in let z : ⊥ = cc in z)
+
+pub returns-in-Lam : goal.returns-in-Lam
+returns-in-Lam c =
+    let h = c.in-Lam.ensures.typed in
+    let p = arrow-parts c.in-Lam.ensures.sound h.typed in
+    record {
+      type_within = omega arith;
+      body_within = omega arith;
+      reads = reads-lam c.in-Lam.ensures.sound c.args.t c.in-Lam.ty c.in-Lam.body c.in-Lam.ensures.view;
+    }
+
+pub returns-in-Logic : goal.returns-in-Logic
+returns-in-Logic c = λ a x e. (let k = reads-logic c.in-Logic.ensures.sound c.args.t c.in-Logic.field-0 c.in-Logic.field-1 c.in-Logic.field-2 c.in-Logic.ensures.view in let z : ⊥ = cc in z)

@@ -1,0 +1,5 @@
+pub mod Tautologies
+pub mod Subsumption
+pub mod Outcomes
+pub mod Laws
+pub mod Matching

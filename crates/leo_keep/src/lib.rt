@@ -1,0 +1,18 @@
+//! The kept clauses of a search, and what becomes of a clause that was found.
+#![tactic(auto)]
+
+mod deciding;
+mod kept;
+pub mod laws;
+mod matching;
+mod outcomes;
+mod subsuming;
+mod tautologies;
+mod tops;
+
+pub use deciding::outcome;
+pub use kept::Kept;
+pub use outcomes::Outcome;
+
+#[cfg(test)]
+mod tests;

@@ -1,0 +1,20 @@
+//! What becomes of clauses.
+
+/// What becomes of a clause that was found.
+#[derive(Clone, Copy, Debug, PartialEq, Eq)]
+pub enum Outcome {
+    /// It is kept.
+    Kept,
+    /// It is not there: the sides of a constraint cannot be made equal.
+    Clash,
+    /// It always holds.
+    Tautology,
+    /// It has too many literals, or too many clauses are kept.
+    Room,
+    /// It weighs too much.
+    Heavy,
+    /// The clause with this number is the same.
+    Copy(u32),
+    /// The clause with this number says no less.
+    Subsumed(u32),
+}

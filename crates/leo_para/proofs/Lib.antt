@@ -1,0 +1,4 @@
+mod Finding
+mod Leading
+mod Keeping
+mod Accepting

@@ -1,0 +1,5 @@
+use Rattle.leo_para.proofs.Accepting.{accepted}
+use Rattle.leo_para.proofs.laws.due_laws.Goals as goal
+
+pub returns : goal.returns
+returns c = accepted

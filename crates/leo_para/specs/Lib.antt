@@ -1,0 +1,4 @@
+pub mod Spines
+pub mod Places
+pub mod Members
+pub mod Laws

@@ -1,0 +1,4 @@
+//! Paramodulation between clauses: which members are due.
+#![tactic(auto)]
+
+pub mod laws;
