@@ -35,7 +35,7 @@ fn stands_among(lit: Lit, others: &[Lit]) -> bool
 }
 
 /// The literals, of which those that stand already, as they are or turned, are left out.
-fn distinct(alloc: Global, lits: &[Lit]) -> Result<Items<Lit>, AllocError>
+pub fn distinct(alloc: Global, lits: &[Lit]) -> Result<Items<Lit>, AllocError>
     ensures { IfOk result (λ kept. kept ≡ firsts same_numbers [] lits.now) }
 {
     let mut kept = Items::new(alloc);
@@ -133,8 +133,19 @@ fn meet_argument(
     }
 }
 
-/// The variables of literals, in the order in which they come.
-fn order_of(alloc: Global, bank: &Bank, lits: &[Lit]) -> Result<IndexSet<u64>, AllocError>
+/// The variables of a term, in the order in which they come.
+pub fn order_in(alloc: Global, bank: &Bank, t: TermId) -> Result<IndexSet<u64>, AllocError>
+    requires { t < length bank.now.terms }
+    ensures { IfOk result (λ order. order.keys ≡ firsts nat_eq [] (occurring (tree_at bank.now t))) }
+{
+    let mut order = IndexSet::new(alloc);
+    let mut visited = IndexSet::new(alloc);
+    meet(bank, t, &mut order, &mut visited, DEPTH)?;
+    Ok(order)
+}
+
+/// The variables of literals, in the order in which they come, the left side of each before the right.
+pub fn order_of(alloc: Global, bank: &Bank, lits: &[Lit]) -> Result<IndexSet<u64>, AllocError>
     requires { AreLiteralsOf bank.now lits.now }
     ensures { IfOk result (λ order. order.keys ≡ firsts nat_eq [] (occurring_in (map (literal_at bank.now) lits.now))) }
 {

@@ -2,11 +2,13 @@
 #![tactic(auto)]
 
 mod arranging;
+mod choices;
 mod clause;
 mod record;
 mod weighing;
 
-pub use arranging::arranged;
+pub use arranging::{arranged, distinct, order_in, order_of};
+pub use choices::Abbr;
 pub use clause::{Clause, Lit};
 pub use record::{Half, LogicKind, Rule, Side, StepRecord};
 pub use weighing::weight;

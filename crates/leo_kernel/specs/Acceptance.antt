@@ -1,5 +1,5 @@
 -- When a step is accepted after earlier lines, and the reason for which it is refused.
-use Rattle.std.specs.Prelude.{ℕ, ◌≡◌, List, take, slice_get, Some}
+use Rattle.std.specs.Prelude.{ℕ, ◌≡◌, ◌++◌, List, [], take, slice_get, Some}
 use Rattle.leo_terms.specs.Tree.{Tree}
 use Rattle.leo_kernel.specs.declared.reason.Reason.{Reason}
 use Rattle.leo_kernel.specs.declared.reason.Reason.TheVariants as reason
@@ -45,3 +45,7 @@ pub record IsRefusedFor (hypotheses : List Tree) (lines : List Line) (step : Lin
 -- each line is accepted after those before it
 abbrev pub AreAccepted : List Tree → List Line → Type 0
 AreAccepted hypotheses lines = (n : ℕ) (step : Line) → slice_get lines n ≡ Some step → Accepts hypotheses (take n lines) step
+
+-- each new line is accepted, from no hypotheses, after the first lines and the new ones before it
+abbrev pub AreAcceptedAfter : List Line → List Line → Type 0
+AreAcceptedAfter first new = (n : ℕ) (step : Line) → slice_get new n ≡ Some step → Accepts [] (first ++ take n new) step

@@ -1,0 +1,13 @@
+pub mod Forms
+pub mod Choosing
+pub mod Splitting
+pub mod Leaves
+pub mod Ways
+pub mod Moves
+pub mod Literals
+pub mod Giving
+pub mod Applied
+pub mod Picking
+pub mod Reducing
+pub mod Agendas
+pub mod Branches

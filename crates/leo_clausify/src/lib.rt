@@ -1,0 +1,16 @@
+//! Splitting of a clause into its leaves, the clauses in which no literal can be reduced any more.
+#![tactic(auto)]
+
+mod agenda;
+mod branch;
+mod choosing;
+mod closing;
+mod leaves;
+mod literals;
+mod moves;
+mod reducing;
+mod splitting;
+mod ways;
+
+pub use leaves::{Leaf, Split};
+pub use splitting::split;
