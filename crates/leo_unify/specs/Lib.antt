@@ -1,0 +1,9 @@
+pub mod Spines
+pub mod Pairs
+pub mod Patterns
+pub mod Residues
+pub mod Acts
+pub mod Search
+pub mod Contexts
+pub mod Tops
+pub mod Views
