@@ -13,7 +13,8 @@ use Rattle.leo_clause.specs.Typed.{IsOver}
 use Rattle.leo_clause.specs.Sameness.{same_tree}
 use Rattle.leo_unify.specs.Pairs.{Pair, and_pair, if_same, paired_constant, paired_arguments}
 use Rattle.leo_unify.specs.Patterns.{Pattern, pattern_of, is_covered, rebound, abstracted}
-use Rattle.leo_unify.specs.Acts.{Binding, Act, stay, replace, bind, refuse, branch, body_of, stripped, removed, bound_by, solved, stuck, taken_apart, clashing}
+use Rattle.leo_unify.specs.Acts.{Binding, Act, stay, replace, bind, refuse, branch, body_of, stripped, removed, bound_by, solved, stuck, taken_apart, clashing, branching, tried, act}
+use Rattle.leo_unify.specs.Spines.{head, is_flex, is_rigid, is_variable}
 use Rattle.leo_unify.specs.Contexts.{AreBoundTo, under, IsPairIn, ArePairsIn, IsBindingIn, IsActIn}
 use Rattle.leo_unify.proofs.Over.{over-append}
 use Rattle.leo_unify.proofs.PatternLemmas.{AreOrdered, IsPatternIn, pattern-typed, type_of-rebound, over-rebound, over-abstracted, bound-rebound_at}
@@ -238,3 +239,33 @@ refused-in vs false = tt
 pub removed-in : (vs : List SimpleType) (b : Bool) → IsChosenIn vs (if b then Some (replace []) else None)
 removed-in vs true = tt
 removed-in vs false = tt
+
+-- ---- the whole, but for branches
+
+pub act-in : (vs : List SimpleType) (n d : ℕ) (l r : Tree) → IsWellTyped l → IsWellTyped r → IsPairIn vs (record { left = l; right = r }) → IsActIn vs (unwrap_or (branching n d l r) stay) → IsActIn vs (act n d l r)
+act-in vs n d l r v w h k =
+    chosen-else vs (stripped l r) _ (stripped-in vs l r v w h)
+    (chosen-else vs (removed l r) _ (removed-in vs (same_tree l r))
+    (chosen-else vs (solved l r) _ (solved-in vs h.types h.depth r h.right_over h.right_bound l v h.left_over h.left_bound h.same_type)
+    (chosen-else vs (solved r l) _ (solved-in vs h.types h.depth l h.left_over h.left_bound r w h.right_over h.right_bound (sym h.same_type))
+    (chosen-else vs (stuck l r) _ (refused-in vs (is_variable l || is_variable r))
+    (chosen-else vs (taken_apart l r) _ (apart-in vs h.types h.depth l r (record { left_typed = v; right_typed = w; left_over = h.left_over; right_over = h.right_over; left_bound = h.left_bound; right_bound = h.right_bound }))
+    (chosen-else vs (clashing l r) _ (refused-in vs (is_rigid l && (is_rigid r && not (same_type (type_of l) truth_type)))) k))))))
+
+tried-in_none : (vs : List SimpleType) (n : ℕ) (t h : Tree) → IsActIn vs (tried n 0 t h)
+tried-in_none vs n (variable m a) h = tt
+tried-in_none vs n (bound i a) h = tt
+tried-in_none vs n (symbol s a) h = tt
+tried-in_none vs n (app f x) h = tt
+tried-in_none vs n (lam a t) h = tt
+tried-in_none vs n (logic c x y) h = tt
+tried-in_none vs n absent h = tt
+
+pub branching-in_none : (vs : List SimpleType) (n : ℕ) (l r : Tree) → IsActIn vs (unwrap_or (branching n 0 l r) stay)
+branching-in_none vs n l r = by (is_flex l) (is_flex r)
+  where
+    by : (p q : Bool) → IsActIn vs (unwrap_or (if p && not q then Some (tried n 0 (head l) (head r)) else (if not p && q then Some (tried n 0 (head r) (head l)) else None)) stay)
+    by true false = tried-in_none vs n (head l) (head r)
+    by false true = tried-in_none vs n (head r) (head l)
+    by true true = tt
+    by false false = tt

@@ -6,3 +6,6 @@ pub mod CoverSteps
 pub mod PairLemmas
 pub mod ActLemmas
 pub mod ActSteps
+pub mod StateLemmas
+pub mod SearchSteps
+pub mod SearchLemmas

@@ -12,7 +12,9 @@ use Rattle.leo_terms.proofs.CallerLemmas.{type-shared}
 use Rattle.leo_clause.specs.Sameness.{same_tree}
 use Rattle.leo_unify.specs.Pairs.{Pair, and_pair, if_same, paired_constant, paired_arguments}
 use Rattle.leo_unify.proofs.Growing.{same-terms}
-use Rattle.leo_unify.specs.Tops.{application_of, choice_by, choice_of, is_atom}
+use Rattle.leo_unify.specs.Tops.{application_of, choice_by, choice_of, is_atom, is_symbol}
+use Rattle.leo_unify.specs.Residues.{left_of_constant, left_of_arguments, residue}
+use Rattle.std.specs.Prelude.{unwrap_or}
 
 some-same : {X : Type 0} (x y : X) → Some x ≡ Some y → x ≡ y
 some-same x y e = cc
@@ -163,3 +165,106 @@ atoms-same c b l r p q h t k = rw (k, same-terms c b l r p q) (sym (paired-atoms
 
 pub apps-same : (c : Contents) (l r f x g y : ℕ) (ps : Option (List Pair)) → Some (tree_at c f, tree_at c x) ≡ application_of (tree_at c l) → Some (tree_at c g, tree_at c y) ≡ application_of (tree_at c r) → ps ≡ paired_arguments (tree_at c f) (tree_at c g) → option_map (and_pair (tree_at c x) (tree_at c y)) ps ≡ paired_arguments (tree_at c l) (tree_at c r)
 apps-same c l r f x g y ps e h k = rw k (sym (paired-apps (tree_at c l) (tree_at c r) (tree_at c f) (tree_at c x) (tree_at c g) (tree_at c y) (sym e) (sym h)))
+
+-- ---- what is left of the arguments
+
+pub left-apps : (l r f x g y : Tree) → application_of l ≡ Some (f, x) → application_of r ≡ Some (g, y) → left_of_arguments l r ≡ option_map (λ (ps : List Pair). ps ++ residue x y) (left_of_arguments f g)
+left-apps l r f x g y e h = rw (application-is l f x e, application-is r g y h) refl
+
+pub left-app_none : (l r f x : Tree) → application_of l ≡ Some (f, x) → application_of r ≡ None → left_of_arguments l r ≡ None
+left-app_none l r f x e h = rw (application-is l f x e) (by r h)
+  where
+    by : (r : Tree) → application_of r ≡ None → left_of_arguments (app f x) r ≡ None
+    by (app g y) h = some-none (g, y) h
+    by (variable n a) h = refl
+    by (bound i a) h = refl
+    by (symbol s a) h = refl
+    by (lam a t) h = refl
+    by (logic c y z) h = refl
+    by absent h = refl
+
+left-choices : (l r p q : Tree) (a b : SimpleType) → choice_of l ≡ Some (a, p) → choice_of r ≡ Some (b, q) → left_of_arguments l r ≡ if_same (same_type a b) (residue p q)
+left-choices l r p q a b e h = rw ((choice-is l p a e).1, (choice-is r q b h).1) refl
+
+left-no_choice : (a : SimpleType) (c : Connective) (q : Tree) (ps : List Pair) → choice_by c q ≡ None → left_of_constant (choice a) c ps ≡ None
+left-no_choice a (choice b) q ps h = some-none (b, q) h
+left-no_choice a truth q ps h = refl
+left-no_choice a falsity q ps h = refl
+left-no_choice a negation q ps h = refl
+left-no_choice a disjunction q ps h = refl
+left-no_choice a conjunction q ps h = refl
+left-no_choice a implication q ps h = refl
+left-no_choice a (equality b) q ps h = refl
+left-no_choice a (universal b) q ps h = refl
+left-no_choice a (existential b) q ps h = refl
+
+pub left-choice_none : (l r p : Tree) (a : SimpleType) → choice_of l ≡ Some (a, p) → choice_of r ≡ None → left_of_arguments l r ≡ None
+left-choice_none l r p a e h = let w = choice-is l p a e in rw w.1 (by w.0 r h)
+  where
+    by : (x r : Tree) → choice_of r ≡ None → left_of_arguments (logic (choice a) p x) r ≡ None
+    by x (logic c q y) h = left-no_choice a c q (residue p q) h
+    by x (app g y) h = refl
+    by x (variable n b) h = refl
+    by x (bound i b) h = refl
+    by x (symbol s b) h = refl
+    by x (lam b t) h = refl
+    by x absent h = refl
+
+left-constant_none : (c d : Connective) (p : Tree) (ps : List Pair) → choice_by c p ≡ None → left_of_constant c d ps ≡ None
+left-constant_none (choice a) d p ps h = some-none (a, p) h
+left-constant_none truth d p ps h = refl
+left-constant_none falsity d p ps h = refl
+left-constant_none negation d p ps h = refl
+left-constant_none disjunction d p ps h = refl
+left-constant_none conjunction d p ps h = refl
+left-constant_none implication d p ps h = refl
+left-constant_none (equality a) d p ps h = refl
+left-constant_none (universal a) d p ps h = refl
+left-constant_none (existential a) d p ps h = refl
+
+pub left-others : (l r : Tree) → application_of l ≡ None → choice_of l ≡ None → is_symbol l ≡ false → left_of_arguments l r ≡ None
+left-others (app f x) r e h k = some-none (f, x) e
+left-others (symbol s a) r e h k = absurd (cc)
+left-others (bound i a) r e h k = refl
+left-others (variable n a) r e h k = refl
+left-others (lam a t) r e h k = refl
+left-others absent r e h k = refl
+left-others (logic c p x) (logic d q y) e h k = left-constant_none c d p (residue p q) h
+left-others (logic c p x) (variable n a) e h k = refl
+left-others (logic c p x) (bound n a) e h k = refl
+left-others (logic c p x) (symbol n a) e h k = refl
+left-others (logic c p x) (app f y) e h k = refl
+left-others (logic c p x) (lam a t) e h k = refl
+left-others (logic c p x) absent e h k = refl
+
+left-symbols : (l r : Tree) → is_symbol l ≡ true → left_of_arguments l r ≡ if_same (same_tree l r) []
+left-symbols (symbol i a) (symbol j b) h = refl
+left-symbols (symbol i a) (variable n b) h = refl
+left-symbols (symbol i a) (bound n b) h = refl
+left-symbols (symbol i a) (app f x) h = refl
+left-symbols (symbol i a) (lam b t) h = refl
+left-symbols (symbol i a) (logic c x y) h = refl
+left-symbols (symbol i a) absent h = refl
+left-symbols (bound i a) r h = absurd (cc)
+left-symbols (variable n a) r h = absurd (cc)
+left-symbols (app f x) r h = absurd (cc)
+left-symbols (lam a t) r h = absurd (cc)
+left-symbols (logic c x y) r h = absurd (cc)
+left-symbols absent r h = absurd (cc)
+
+pub left-choices_same : (c : Contents) → IsBank c → (l r i j p q : ℕ) → i < length c.types → j < length c.types → Some (type_at c i, tree_at c p) ≡ choice_of (tree_at c l) → Some (type_at c j, tree_at c q) ≡ choice_of (tree_at c r) → (t : Bool) → t ≡ nat_eq i j → if_same t (residue (tree_at c p) (tree_at c q)) ≡ left_of_arguments (tree_at c l) (tree_at c r)
+left-choices_same c b l r i j p q li lj e h t k = rw (k, same-types c b i j li lj) (sym (left-choices (tree_at c l) (tree_at c r) (tree_at c p) (tree_at c q) (type_at c i) (type_at c j) (sym e) (sym h)))
+
+pub left-symbols_same : (c : Contents) → IsBank c → (l r : ℕ) → l < length c.terms → r < length c.terms → is_symbol (tree_at c l) ≡ true → (t : Bool) → t ≡ nat_eq l r → if_same t [] ≡ left_of_arguments (tree_at c l) (tree_at c r)
+left-symbols_same c b l r p q h t k = rw (k, same-terms c b l r p q) (sym (left-symbols (tree_at c l) (tree_at c r) h))
+
+pub left-apps_same : (c : Contents) (l r f x g y : ℕ) (ps more : List Pair) → Some (tree_at c f, tree_at c x) ≡ application_of (tree_at c l) → Some (tree_at c g, tree_at c y) ≡ application_of (tree_at c r) → Some ps ≡ left_of_arguments (tree_at c f) (tree_at c g) → more ≡ residue (tree_at c x) (tree_at c y) → Some (ps ++ more) ≡ left_of_arguments (tree_at c l) (tree_at c r)
+left-apps_same c l r f x g y ps more e h k m =
+    let z = left-apps (tree_at c l) (tree_at c r) (tree_at c f) (tree_at c x) (tree_at c g) (tree_at c y) (sym e) (sym h) in
+    rw m (sym (z ∙ ap (option_map (λ (qs : List Pair). qs ++ residue (tree_at c x) (tree_at c y))) (sym k)))
+
+pub residue-equal : (c : Contents) → IsBank c → (l r : ℕ) → l < length c.terms → r < length c.terms → (t : Bool) → t ≡ nat_eq l r → t ≡ true → [] ≡ residue (tree_at c l) (tree_at c r)
+residue-equal c b l r p q t e f = let w : same_tree (tree_at c l) (tree_at c r) ≡ true = sym (e ∙ same-terms c b l r p q) ∙ f in rw w refl
+
+pub residue-other : (c : Contents) → IsBank c → (l r : ℕ) → l < length c.terms → r < length c.terms → (t : Bool) → t ≡ nat_eq l r → t ≡ false → (o : Option (List Pair)) → o ≡ left_of_arguments (tree_at c l) (tree_at c r) → unwrap_or o ((record { left = tree_at c l; right = tree_at c r }) ∷ []) ≡ residue (tree_at c l) (tree_at c r)
+residue-other c b l r p q t e f o k = let w : same_tree (tree_at c l) (tree_at c r) ≡ false = sym (e ∙ same-terms c b l r p q) ∙ f in rw (w, k) refl

@@ -1,10 +1,11 @@
 -- Where the terms of a state and of a pair stand: which types variables and loose indices have. No public contract speaks of it.
 use Rattle.std.specs.Prelude.{ℕ, zero, suc, ◌≡◌, List, [], ◌∷◌, ◌++◌, slice_get, Some}
 use Rattle.leo_q0.specs.Terms.{SimpleType}
-use Rattle.leo_terms.specs.Tree.{Tree, type_of, IsBoundAt}
-use Rattle.leo_terms.specs.Reduction.{IsNormal}
+use Rattle.leo_terms.specs.Tree.{Tree, type_of, substituted, IsBoundAt, IsGiven}
+use Rattle.leo_terms.specs.Reduction.{Reduces, IsNormal}
 use Rattle.leo_clause.specs.Typed.{IsOver}
 use Rattle.leo_unify.specs.Pairs.{Pair}
+use Rattle.leo_unify.specs.Search.{put}
 use Rattle.leo_unify.specs.Acts.{Binding, Act, stay, replace, bind, refuse, branch}
 
 -- each loose index of the term has the type that is given for it
@@ -46,13 +47,39 @@ IsActIn variables (bind b) = IsBindingIn variables b
 IsActIn variables refuse = Unit {0}
 IsActIn variables (branch bs) = AreBindingsIn variables bs
 
--- each of these terms is closed, normal and of the type of its place
-abbrev pub AreTermsIn : List SimpleType → List SimpleType → List Tree → Type 0
-AreTermsIn variables [] [] = Unit {0}
-AreTermsIn variables (a ∷ types) (t ∷ terms) = IsOver variables 0 t × IsNormal t × (type_of t ≡ a) × AreTermsIn variables types terms
-AreTermsIn variables [] (t ∷ terms) = ⊥
-AreTermsIn variables (a ∷ types) [] = ⊥
+-- each of these terms is closed and normal
+abbrev pub AreTermsIn : List SimpleType → List Tree → Type 0
+AreTermsIn variables [] = Unit {0}
+AreTermsIn variables (t ∷ terms) = IsOver variables 0 t × IsNormal t × AreTermsIn variables terms
 
 -- what is put in for variables of the types `old`: closed terms of these types over variables of the types `new`
 abbrev pub AreGivenOver : List SimpleType → List SimpleType → List Tree → Type 0
 AreGivenOver old new given = (n : ℕ) (a : SimpleType) → slice_get old n ≡ Some a → (s : Tree) × (slice_get given n ≡ Some s) × (type_of s ≡ a) × IsOver new 0 s
+
+-- each variable of these terms, and of these pairs, is given a term of its type
+abbrev pub AreTreesGiven : List Tree → List Tree → Type 0
+AreTreesGiven given [] = Unit {0}
+AreTreesGiven given (t ∷ ts) = IsGiven given t × AreTreesGiven given ts
+
+abbrev pub ArePairsGiven : List Tree → List Pair → Type 0
+ArePairsGiven given [] = Unit {0}
+ArePairsGiven given (p ∷ ps) = IsGiven given p.left × IsGiven given p.right × ArePairsGiven given ps
+
+-- r is t with these put in, in normal form
+pub record IsPutTree (given : List Tree) (t r : Tree) : Type 0 where
+  pub value : r ≡ put given t
+  pub reduces : Reduces (substituted given 0 t) r
+  pub normal : IsNormal r
+  pub same_type : type_of r ≡ type_of t
+
+abbrev pub ArePutTrees : List Tree → List Tree → List Tree → Type 0
+ArePutTrees given [] [] = Unit {0}
+ArePutTrees given (t ∷ ts) (r ∷ rs) = IsPutTree given t r × ArePutTrees given ts rs
+ArePutTrees given [] (r ∷ rs) = ⊥
+ArePutTrees given (t ∷ ts) [] = ⊥
+
+abbrev pub ArePutPairs : List Tree → List Pair → List Pair → Type 0
+ArePutPairs given [] [] = Unit {0}
+ArePutPairs given (p ∷ ps) (q ∷ qs) = IsPutTree given p.left q.left × IsPutTree given p.right q.right × ArePutPairs given ps qs
+ArePutPairs given [] (q ∷ qs) = ⊥
+ArePutPairs given (p ∷ ps) [] = ⊥

@@ -7,3 +7,6 @@ pub mod Search
 pub mod Contexts
 pub mod Tops
 pub mod Views
+pub mod States
+pub mod Solutions
+pub mod Given

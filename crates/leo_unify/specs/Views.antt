@@ -1,5 +1,5 @@
 -- What the numbers of a bank say in pairs, patterns, bindings and acts. No public contract speaks of it.
-use Rattle.std.specs.Prelude.{ℕ, ◌≡◌, ◌<◌, List, [], ◌∷◌, length, map, slice_get, Option, Some, None}
+use Rattle.std.specs.Prelude.{ℕ, ◌≡◌, ◌<◌, List, [], ◌∷◌, length, map, slice_get, Bool, true, false, Option, Some, None}
 use Rattle.leo_q0.specs.Terms.{SimpleType}
 use Rattle.leo_terms.specs.Tree.{Tree, IsBoundAt}
 use Rattle.leo_terms.specs.Contents.{Contents, tree_at, type_at}
@@ -74,3 +74,11 @@ IsActOf c (act.Branch bs) = AreBindingsOf c bs
 abbrev pub IsOptionalActOf : Contents → Option declared_act.Act → Type 0
 IsOptionalActOf c None = Unit {0}
 IsOptionalActOf c (Some a) = IsActOf c a
+
+-- no case applies
+abbrev pub stays : Act → Bool
+stays stay = true
+stays (replace ps) = false
+stays (bind b) = false
+stays refuse = false
+stays (branch bs) = false

@@ -5,4 +5,14 @@ mod act;
 mod cover;
 mod pairs;
 mod pattern;
+mod residues;
+mod search;
+mod sigma;
+mod solving;
 mod spine;
+mod state;
+
+pub use pairs::Pair;
+pub use residues::residue;
+pub use sigma::Sigma;
+pub use solving::solve;

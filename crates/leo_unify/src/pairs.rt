@@ -5,7 +5,7 @@ ghost use Rattle.std.specs.Option.{option_map};
 ghost use Rattle.leo_q0.specs.Terms.{same_type};
 ghost use Rattle.leo_terms.specs.Contents.{tree_at, type_at};
 ghost use Rattle.leo_unify.specs.Pairs.{and_pair, if_same, paired_arguments};
-ghost use Rattle.leo_unify.specs.Tops.{application_of as application_of_tree, choice_of as choice_of_tree, is_atom as is_atom_tree};
+ghost use Rattle.leo_unify.specs.Tops.{application_of as application_of_tree, choice_of as choice_of_tree, is_atom as is_atom_tree, is_symbol as is_symbol_tree};
 ghost use Rattle.leo_unify.specs.Views.{pair_at, application_at, chosen_at, ArePairsOf, AreOptionalPairsOf};
 
 use leo_items::Items;
@@ -89,6 +89,21 @@ fn is_atom(bank: &Bank, t: TermId) -> bool
     match bank.view(t) {
         View::Var(_) => false,
         View::Bound(_) => true,
+        View::Sym(_) => true,
+        View::App(_, _) => false,
+        View::Lam(_, _) => false,
+        View::Logic(_, _, _) => false,
+    }
+}
+
+/// Whether a term is a symbol.
+pub(crate) fn is_symbol(bank: &Bank, t: TermId) -> bool
+    requires { t < length bank.now.terms }
+    ensures { result ≡ is_symbol_tree (tree_at bank.now t) }
+{
+    match bank.view(t) {
+        View::Var(_) => false,
+        View::Bound(_) => false,
         View::Sym(_) => true,
         View::App(_, _) => false,
         View::Lam(_, _) => false,
