@@ -9,3 +9,5 @@ pub mod ActSteps
 pub mod StateLemmas
 pub mod SearchSteps
 pub mod SearchLemmas
+pub mod Unique
+pub mod GivenPairs

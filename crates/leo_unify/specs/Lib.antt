@@ -10,3 +10,4 @@ pub mod Views
 pub mod States
 pub mod Solutions
 pub mod Given
+pub mod Laws

@@ -3,6 +3,7 @@
 
 mod act;
 mod cover;
+pub mod laws;
 mod pairs;
 mod pattern;
 mod residues;
@@ -16,3 +17,6 @@ pub use pairs::Pair;
 pub use residues::residue;
 pub use sigma::Sigma;
 pub use solving::solve;
+
+#[cfg(test)]
+mod tests;

@@ -23,8 +23,7 @@ loop-place-preserved c =
     let e = c.loop-place.invariant.0 in
     let g = c.make_var.ensures.grows in
     let k = c.normal.ensures.grows in
-    let n : c.in-Ok.number ≡ c.loop-place.place = search rules in
-    (
+    let n : c.in-Ok.number ≡ c.loop-place.place = search rules in (
       extends-trans (extends-trans e g) k,
       rw c.in_ok-push.ensures.ok (terms-end c.normal.new.self c.loop-place.terms c.in_ok-long.long (are_terms-kept (extends-trans g k) c.loop-place.terms c.loop-place.invariant.1) c.in_ok-long.ensures.made.within),
       rw c.in_ok-push.ensures.ok (long-next e g k c.args.vars.now c.loop-place.place c.in-Ok.number c.index-vars-place.result c.in_ok-variable.variable c.in_ok-long.long c.loop-place.terms c.requires c.loop-place.invariant.1 c.loop-place-test.true c.index-vars-place.is n c.in_ok-variable.ensures.made c.in_ok-long.ensures.made c.loop-place.invariant.2),
