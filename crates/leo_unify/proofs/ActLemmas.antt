@@ -1,11 +1,10 @@
 -- What is done with a pair in its context is right there.
-use Rattle.std.proofs.Common.{ℕ, zero, suc, nat_eq, nat_lt, ◌≡◌, ◌∙◌, ◌+◌, ◌<◌, ◌≤◌, Bool, true, false, not, ◌&&◌, ◌||◌, List, [], ◌∷◌, ◌++◌, length, slice_get, Option, Some, None, refl, sym, ap, add-one, subst, arith}
+use Rattle.std.proofs.Common.{ℕ, zero, suc, nat_eq, ◌≡◌, ◌∙◌, ◌+◌, Bool, true, false, not, ◌&&◌, ◌||◌, List, [], ◌∷◌, ◌++◌, length, slice_get, Option, Some, None, refl, sym, ap, add-one, subst, arith}
 use Rattle.std.specs.Prelude.{unwrap_or}
 use Rattle.std.specs.Bool.{if◌then◌else◌}
 use Rattle.std.specs.Option.{option_map, option_and_then}
 use Rattle.std.proofs.lemmas.Bool.{and_parts}
-use Rattle.std.proofs.lemmas.Bool.Decides.{nat_tests}
-use Rattle.leo_q0.specs.Terms.{SimpleType, base, arrow, same_type}
+use Rattle.leo_q0.specs.Terms.{SimpleType, arrow, same_type}
 use Rattle.leo_q0.proofs.Variables.{equal_types}
 use Rattle.leo_terms.specs.Tree.{codomain, truth_type, Tree, variable, bound, symbol, app, lam, logic, absent, Connective, truth, falsity, negation, disjunction, conjunction, implication, equality, universal, existential, choice, type_of, IsBoundAt}
 use Rattle.leo_terms.specs.Typing.{IsWellTyped}
@@ -13,7 +12,7 @@ use Rattle.leo_clause.specs.Typed.{IsOver}
 use Rattle.leo_clause.specs.Sameness.{same_tree}
 use Rattle.leo_unify.specs.Pairs.{Pair, and_pair, if_same, paired_constant, paired_arguments}
 use Rattle.leo_unify.specs.Patterns.{Pattern, pattern_of, is_covered, rebound, abstracted}
-use Rattle.leo_unify.specs.Acts.{Binding, Act, stay, replace, bind, refuse, branch, body_of, stripped, removed, bound_by, solved, stuck, taken_apart, clashing, branching, tried, act}
+use Rattle.leo_unify.specs.Acts.{Act, stay, replace, bind, refuse, stripped, removed, bound_by, solved, stuck, taken_apart, clashing, branching, tried, act}
 use Rattle.leo_unify.specs.Spines.{head, is_flex, is_rigid, is_variable}
 use Rattle.leo_unify.specs.Contexts.{AreBoundTo, under, IsPairIn, ArePairsIn, IsBindingIn, IsActIn}
 use Rattle.leo_unify.proofs.Over.{over-append}

@@ -1,20 +1,18 @@
 -- The steps of the calls that choose what is done with a pair.
-use Rattle.std.proofs.Common.{ℕ, zero, suc, nat_eq, ◌≡◌, ◌∙◌, ◌+◌, ◌<◌, ◌≤◌, Bool, true, false, not, ◌&&◌, ◌||◌, List, [], ◌∷◌, ◌++◌, length, map, slice_get, Option, Some, None, refl, sym, ap, subst, arith}
+use Rattle.std.proofs.Common.{ℕ, nat_eq, ◌≡◌, ◌∙◌, ◌<◌, Bool, true, false, not, ◌&&◌, ◌||◌, List, [], length, map, Option, Some, None, refl, sym, arith}
 use Rattle.std.specs.Prelude.{unwrap_or}
 use Rattle.std.specs.Bool.{if◌then◌else◌}
-use Rattle.std.specs.Option.{option_map, option_and_then}
 use Rattle.leo_q0.specs.Terms.{SimpleType, same_type}
 use Rattle.leo_terms.specs.Tree.{truth_type, Tree, variable, bound, symbol, app, lam, logic, absent, type_of}
 use Rattle.leo_terms.specs.Contents.{Contents, IsBank, Extends, IsTerm, tree_at, type_at, type_number}
-use Rattle.leo_terms.proofs.CallerLemmas.{old_bank, new_bank, type-kept, tree-kept, term-typed, type_of-term, type_number-within, reads-base, sound}
-use Rattle.leo_clause.specs.Typed.{IsOver, AreTypesOf}
+use Rattle.leo_terms.proofs.CallerLemmas.{old_bank, tree-kept, term-typed, type_of-term, type_number-within, reads-base, sound}
+use Rattle.leo_clause.specs.Typed.{AreTypesOf}
 use Rattle.leo_unify.specs.declared.pattern.Pattern as declared
 use Rattle.leo_clause.specs.Sameness.{same_tree}
-use Rattle.leo_unify.specs.Spines.{head, is_flex, is_rigid, is_variable}
-use Rattle.leo_unify.specs.Pairs.{Pair}
-use Rattle.leo_unify.specs.Patterns.{Pattern, pattern_of, is_covered, rebound, abstracted}
-use Rattle.leo_unify.specs.Acts.{Binding, Act, stay, replace, bind, refuse, branch, bound_by, solved, removed, stuck, clashing, branching, tried, act_on_heads, act_on_sides}
-use Rattle.leo_unify.specs.Contexts.{AreBoundTo, IsPairIn}
+use Rattle.leo_unify.specs.Spines.{head, is_flex, is_variable}
+use Rattle.leo_unify.specs.Patterns.{pattern_of, is_covered, rebound, abstracted}
+use Rattle.leo_unify.specs.Acts.{Act, stay, replace, bind, refuse, solved, removed, stuck, branching, tried, act_on_heads, act_on_sides}
+use Rattle.leo_unify.specs.Contexts.{IsPairIn}
 use Rattle.leo_unify.specs.Views.{pattern_at, AreBodyTypes}
 use Rattle.leo_unify.proofs.Growing.{types-kept, same-terms}
 use Rattle.leo_unify.proofs.PairLemmas.{same-types}

@@ -1,17 +1,14 @@
 -- The steps of the calls that bind loose indices anew.
-use Rattle.std.proofs.Common.{ℕ, zero, suc, nat_eq, nat_lt, ◌≡◌, ◌∙◌, ◌+◌, ◌-◌, ◌<◌, ◌≤◌, Bool, true, false, not, ◌&&◌, ◌||◌, List, [], ◌∷◌, ◌++◌, length, map, drop, slice_get, slice_index_or, Option, Some, None, refl, sym, ap, add-one, subst, arith}
-use Rattle.std.specs.Bool.{if◌then◌else◌}
-use Rattle.std.specs.List.{list_any}
+use Rattle.std.proofs.Common.{ℕ, zero, suc, nat_eq, nat_lt, ◌≡◌, ◌∙◌, ◌+◌, ◌-◌, ◌<◌, ◌≤◌, Bool, true, false, not, ◌&&◌, ◌||◌, List, [], ◌∷◌, length, map, drop, slice_index_or, Option, Some, None, refl, sym, ap, subst, arith}
 use Rattle.std.proofs.lemmas.Bool.Decides.{nat_tests}
 use Rattle.leo_q0.specs.Terms.{SimpleType}
 use Rattle.leo_terms.specs.declared.node.Op.{Op}
 use Rattle.leo_terms.specs.declared.node.Op.TheVariants as op
 use Rattle.leo_terms.specs.declared.node.View.TheVariants.{Lam, Logic}
-use Rattle.leo_terms.specs.Tree.{Tree, variable, bound, symbol, app, lam, logic, absent, equality, universal, existential, choice, type_of, IsBoundAt}
-use Rattle.leo_terms.specs.Typing.{IsWellTyped}
+use Rattle.leo_terms.specs.Tree.{Tree, variable, bound, symbol, app, lam, logic, absent, equality, universal, existential, choice, IsBoundAt}
 use Rattle.leo_terms.specs.Facts.{loose_range, variable_range}
 use Rattle.leo_terms.specs.Contents.{Contents, IsBank, Extends, IsTerm, IsArgumentTerm, IsArgumentBelow, IsArrow, IsApplicable, IsSoundLam, IsSoundLogic, Takes, HasTypeBelow, tree_at, type_at, type_number, codomain_number, argument, argument_type, connective, operator_type}
-use Rattle.leo_terms.proofs.CallerLemmas.{new_bank, old_bank, extends-trans, type-kept, tree-kept, type_number-kept, term-kept, argument_term-kept, arrow-kept, applicable, type_of-term, type-shared, view-typed, arrow-parts, reads-arrow, reads-lam, reads-logic, HasView, grown}
+use Rattle.leo_terms.proofs.CallerLemmas.{new_bank, extends-trans, type-kept, tree-kept, type_number-kept, term-kept, argument_term-kept, arrow-kept, applicable, type-shared, view-typed, arrow-parts, reads-arrow, reads-lam, reads-logic, HasView, grown}
 use Rattle.leo_terms.proofs.Growth.{Takes-keeps}
 use Rattle.leo_clause.specs.Typed.{AreTypesOf}
 use Rattle.leo_clause.specs.Arranging.{place_in}

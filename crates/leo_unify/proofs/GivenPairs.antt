@@ -1,6 +1,6 @@
 -- Pairs of a variable and a symbol, and of two symbols.
-use Rattle.std.proofs.Common.{ℕ, ◌≡◌, ◌∙◌, ◌<◌, ◌≤◌, [], ◌∷◌, length, Some, refl, sym, ap, arith}
-use Rattle.leo_terms.specs.Tree.{Tree, variable, symbol, type_of}
+use Rattle.std.proofs.Common.{ℕ, ◌≡◌, ◌∙◌, ◌<◌, [], ◌∷◌, length, refl, sym, arith}
+use Rattle.leo_terms.specs.Tree.{variable, symbol}
 use Rattle.leo_terms.specs.Contents.{Contents, Extends, IsTerm, tree_at, type_at, symbol_type}
 use Rattle.leo_terms.proofs.CallerLemmas.{extends-trans, type-kept, tree-kept}
 use Rattle.leo_unify.specs.Given.{IsTypedPair}

@@ -1,8 +1,8 @@
 -- Terms over variables: what lifting, opening, reduction and putting terms in for variables keep.
-use Rattle.std.proofs.Common.{ℕ, ◌≡◌, ◌+◌, ◌<◌, ◌≤◌, Bool, true, false, nat_lt, List, ◌++◌, slice_get, Some, refl, inl, inr, arith}
+use Rattle.std.proofs.Common.{ℕ, ◌≡◌, ◌+◌, ◌<◌, ◌≤◌, Bool, true, false, nat_lt, List, ◌++◌, refl, inl, inr, arith}
 use Rattle.std.specs.Bool.{if◌then◌else◌}
 use Rattle.leo_q0.specs.Terms.{SimpleType}
-use Rattle.leo_terms.specs.Tree.{Tree, variable, bound, symbol, app, lam, logic, absent, type_of, lifted, opened, bound_opened, substituted, IsGiven, IsBoundAt}
+use Rattle.leo_terms.specs.Tree.{Tree, variable, bound, symbol, app, lam, logic, absent, lifted, opened, bound_opened, substituted, IsGiven, IsBoundAt}
 use Rattle.leo_terms.specs.Reduction.{Reduces, nothing, andthen, in_app, in_lam, in_logic, beta, eta}
 use Rattle.leo_terms.specs.Facts.{loose_range}
 use Rattle.leo_terms.proofs.ReductionLemmas.{bound_opened-below, bound_opened-at, bound_opened-above, order}

@@ -1,5 +1,5 @@
 -- Variables that are applied to different indices, and what they become.
-use Rattle.std.proofs.Common.{ℕ, zero, suc, nat_eq, nat_lt, ◌≡◌, ◌∙◌, ◌+◌, ◌-◌, ◌<◌, ◌≤◌, Bool, true, false, not, ◌&&◌, ◌||◌, List, [], ◌∷◌, ◌++◌, length, slice_get, Option, Some, None, refl, sym, ap, add-one, subst, arith, ◌⊎◌, inl, inr}
+use Rattle.std.proofs.Common.{ℕ, zero, suc, nat_eq, nat_lt, ◌≡◌, ◌∙◌, ◌+◌, ◌-◌, ◌<◌, ◌≤◌, Bool, true, false, ◌||◌, List, [], ◌∷◌, ◌++◌, length, slice_get, Option, Some, None, refl, sym, ap, subst, arith, ◌⊎◌, inl, inr}
 use Rattle.std.specs.Bool.{if◌then◌else◌}
 use Rattle.std.specs.Option.{option_and_then}
 use Rattle.std.specs.List.{list_any}
@@ -13,8 +13,8 @@ use Rattle.leo_clause.specs.Typed.{IsOver}
 use Rattle.leo_clause.specs.Sameness.{same_tree}
 use Rattle.leo_clause.specs.Arranging.{place_in}
 use Rattle.leo_clause.proofs.Same.{equal-trees}
-use Rattle.leo_unify.specs.Patterns.{Pattern, index_at_head, long_index, new_index, pattern_before, pattern_of, is_covered, rebound, abstracted}
-use Rattle.leo_unify.specs.Contexts.{AreBoundTo, under}
+use Rattle.leo_unify.specs.Patterns.{Pattern, index_at_head, long_index, new_index, pattern_before, is_covered, rebound, abstracted}
+use Rattle.leo_unify.specs.Contexts.{AreBoundTo}
 
 -- ---- places in an order
 

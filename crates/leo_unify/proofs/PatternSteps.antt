@@ -1,20 +1,17 @@
 -- The steps of the calls that find patterns.
-use Rattle.std.proofs.Common.{ℕ, zero, suc, nat_eq, nat_lt, ◌≡◌, ◌∙◌, ◌+◌, ◌-◌, ◌<◌, ◌≤◌, Bool, true, false, List, [], ◌∷◌, ◌++◌, length, map, slice_get, Option, Some, None, refl, sym, ap, arith}
+use Rattle.std.proofs.Common.{ℕ, nat_eq, nat_lt, ◌≡◌, ◌∙◌, ◌-◌, ◌<◌, ◌≤◌, Bool, List, [], ◌∷◌, ◌++◌, length, map, Option, Some, None, refl, arith}
 use Rattle.std.specs.Bool.{if◌then◌else◌}
-use Rattle.std.specs.Option.{option_map, option_and_then}
-use Rattle.std.specs.List.{list_any}
 use Rattle.std.proofs.lemmas.List.{map-append}
 use Rattle.std.proofs.lemmas.Bool.Decides.{nat_tests}
-use Rattle.leo_q0.specs.Terms.{SimpleType}
-use Rattle.leo_terms.specs.Tree.{Tree, variable, bound, symbol, app, lam, logic, absent, type_of}
-use Rattle.leo_terms.specs.NormalForm.{eta_long, normal_form as normal_form_of}
+use Rattle.leo_terms.specs.Tree.{Tree, bound, app, type_of}
+use Rattle.leo_terms.specs.NormalForm.{eta_long}
 use Rattle.leo_terms.specs.Normal.{HasNormalForm}
 use Rattle.leo_terms.specs.Contents.{Contents, IsBank, Extends, IsTerm, tree_at, type_at, type_number}
 use Rattle.leo_terms.proofs.CallerLemmas.{old_bank, new_bank, type-kept, tree-kept, type_of-term}
 use Rattle.leo_clause.specs.Typed.{AreTypesOf}
 use Rattle.leo_clause.specs.Sameness.{same_tree}
-use Rattle.leo_unify.specs.Patterns.{Pattern, index_at_head, long_index, new_index, pattern_before, pattern_of}
-use Rattle.leo_unify.proofs.Growing.{types-kept, types-grow, types-end, same-terms}
+use Rattle.leo_unify.specs.Patterns.{Pattern, index_at_head, long_index, new_index, pattern_before}
+use Rattle.leo_unify.proofs.Growing.{types-kept, same-terms}
 
 -- ---- the index of an eta-long form
 

@@ -1,19 +1,18 @@
 -- The solutions of states, and the solutions of a bank that grew.
-use Rattle.std.proofs.Common.{ℕ, zero, suc, ◌≡◌, ◌∙◌, ◌+◌, ◌-◌, ◌<◌, ◌≤◌, Bool, true, false, List, [], ◌∷◌, ◌++◌, length, map, take, drop, slice_get, slice_index_or, Some, refl, sym, ap, append_assoc, subst, arith}
+use Rattle.std.proofs.Common.{ℕ, zero, suc, ◌≡◌, ◌∙◌, ◌+◌, ◌-◌, ◌<◌, ◌≤◌, List, [], ◌∷◌, ◌++◌, length, map, take, drop, slice_get, slice_index_or, Some, refl, sym, ap, append_assoc, subst, arith}
 use Rattle.std.proofs.lemmas.List.{map-append, length-append}
 use Rattle.leo_q0.specs.Terms.{SimpleType}
-use Rattle.leo_terms.specs.Tree.{Tree, type_of}
-use Rattle.leo_terms.specs.Contents.{Contents, IsBank, Extends, AreTerms, tree_at, type_at}
-use Rattle.leo_terms.proofs.CallerLemmas.{extends-trans, type-kept, tree-kept, trees-kept, are_terms-kept}
-use Rattle.leo_clause.specs.Typed.{AreTypesOf}
+use Rattle.leo_terms.specs.Tree.{type_of}
+use Rattle.leo_terms.specs.Contents.{Contents, Extends, tree_at, type_at}
+use Rattle.leo_terms.proofs.CallerLemmas.{extends-trans, tree-kept, trees-kept, are_terms-kept}
 use Rattle.leo_unify.specs.declared.state.State as declared_state
 use Rattle.leo_unify.specs.declared.sigma.Sigma.{Sigma}
 use Rattle.leo_unify.specs.declared.act.Binding as declared_binding
 use Rattle.leo_unify.specs.declared.pairs.Pair as declared_pair
 use Rattle.leo_unify.specs.Pairs.{Pair}
-use Rattle.leo_unify.specs.Acts.{Binding, Act, stay, replace, bind, refuse, branch}
-use Rattle.leo_unify.specs.Contexts.{AreTermsIn, ArePairsIn, IsBindingIn, AreBindingsIn}
-use Rattle.leo_unify.specs.Search.{State, Solution, Step, rests, fails, becomes, branches, step_of, solution_of, with_binding, with_pairs, Finds, FindsAmong, enough, found, none, later, branched, at_end, in_turn}
+use Rattle.leo_unify.specs.Acts.{Binding}
+use Rattle.leo_unify.specs.Contexts.{ArePairsIn, IsBindingIn, AreBindingsIn}
+use Rattle.leo_unify.specs.Search.{State, Solution, rests, becomes, branches, step_of, solution_of, with_binding, with_pairs, Finds, FindsAmong, enough, found, none, later, branched, at_end, in_turn}
 use Rattle.leo_unify.specs.States.{state_at, IsStateOf}
 use Rattle.leo_unify.specs.Solutions.{sigma_at, IsSigmaOf, AreSigmasOf}
 use Rattle.leo_unify.specs.Views.{pair_at, binding_at, ArePairsOf, IsBindingOf, AreBindingsOf}

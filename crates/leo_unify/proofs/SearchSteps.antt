@@ -1,20 +1,18 @@
 -- The steps of the search.
-use Rattle.std.proofs.Common.{ℕ, zero, suc, nat_eq, ◌≡◌, ◌∙◌, ◌+◌, ◌-◌, ◌<◌, ◌≤◌, Bool, true, false, List, [], ◌∷◌, ◌++◌, length, map, take, drop, slice_get, slice_index_or, Option, Some, None, refl, sym, ap, add-one, append_assoc, subst, arith}
+use Rattle.std.proofs.Common.{ℕ, zero, suc, ◌≡◌, ◌∙◌, ◌+◌, ◌<◌, ◌≤◌, true, false, List, [], ◌∷◌, ◌++◌, length, map, take, drop, slice_get, slice_index_or, Some, refl, sym, ap, arith}
 use Rattle.std.specs.Prelude.{unwrap_or}
-use Rattle.std.proofs.lemmas.List.{map-append, length-append}
 use Rattle.leo_q0.specs.Terms.{SimpleType}
-use Rattle.leo_terms.specs.Tree.{Tree, type_of}
-use Rattle.leo_terms.specs.Contents.{Contents, IsBank, Extends, tree_at, type_at}
-use Rattle.leo_terms.proofs.CallerLemmas.{old_bank, new_bank, tree-kept, term-typed}
-use Rattle.leo_clause.specs.Typed.{AreTypesOf}
+use Rattle.leo_terms.specs.Tree.{Tree}
+use Rattle.leo_terms.specs.Contents.{Contents, Extends, tree_at, type_at}
+use Rattle.leo_terms.proofs.CallerLemmas.{old_bank, tree-kept, term-typed}
 use Rattle.leo_unify.specs.declared.pairs.Pair as declared
 use Rattle.leo_unify.specs.declared.state.State as declared_state
 use Rattle.leo_unify.specs.Pairs.{Pair}
-use Rattle.leo_unify.specs.Acts.{Binding, Act, stay, replace, bind, refuse, branch, act, branching}
+use Rattle.leo_unify.specs.Acts.{Act, stay, replace, bind, refuse, branch, act, branching}
 use Rattle.leo_unify.specs.Contexts.{IsPairIn, ArePairsIn, IsActIn}
-use Rattle.leo_unify.specs.Search.{State, Step, rests, fails, becomes, branches, done, step_from, step_of}
+use Rattle.leo_unify.specs.Search.{State, Step, rests, done, step_from, step_of}
 use Rattle.leo_unify.specs.States.{state_at, IsStateOf}
-use Rattle.leo_unify.specs.Views.{pair_at, stays, ArePairsOf}
+use Rattle.leo_unify.specs.Views.{pair_at, stays}
 use Rattle.leo_unify.proofs.Growing.{types-kept, pairs-of-at}
 use Rattle.leo_unify.proofs.ActLemmas.{act-in}
 

@@ -1,18 +1,17 @@
 -- What a binding that is put into a state keeps.
-use Rattle.std.proofs.Common.{ℕ, zero, suc, nat_eq, ◌≡◌, ◌∙◌, ◌+◌, ◌<◌, ◌≤◌, Bool, true, false, List, [], ◌∷◌, ◌++◌, length, map, take, drop, slice_get, slice_index_or, Option, Some, None, refl, sym, ap, add-one, append_assoc, subst, arith}
+use Rattle.std.proofs.Common.{ℕ, zero, suc, nat_eq, ◌≡◌, ◌∙◌, ◌+◌, ◌<◌, ◌≤◌, Bool, true, false, List, [], ◌∷◌, ◌++◌, length, map, take, drop, slice_get, slice_index_or, Some, refl, sym, ap, append_assoc, subst, arith}
 use Rattle.std.specs.Bool.{if◌then◌else◌}
 use Rattle.std.proofs.lemmas.List.{map-append}
 use Rattle.std.proofs.lemmas.Bool.Decides.{nat_tests}
 use Rattle.leo_q0.specs.Terms.{SimpleType, base}
-use Rattle.leo_terms.specs.Tree.{Tree, variable, type_of, substituted, put_in, IsGiven, IsBoundAt}
-use Rattle.leo_terms.specs.Typing.{IsWellTyped}
-use Rattle.leo_terms.specs.Reduction.{Reduces, IsNormal}
+use Rattle.leo_terms.specs.Tree.{Tree, variable, type_of, substituted, put_in, IsGiven}
+use Rattle.leo_terms.specs.Reduction.{Reduces}
 use Rattle.leo_terms.specs.NormalForm.{normal_form as normal_form_of}
 use Rattle.leo_terms.specs.Normal.{HasNormalForm}
-use Rattle.leo_terms.specs.Contents.{Contents, IsBank, Extends, IsTerm, AreTerms, tree_at, type_at, type_number}
+use Rattle.leo_terms.specs.Contents.{Contents, Extends, IsTerm, AreTerms, tree_at, type_at, type_number}
 use Rattle.leo_terms.proofs.ReductionLemmas.{IsBoundAt-reduces}
 use Rattle.leo_terms.proofs.ListLemmas.{slice_get-append}
-use Rattle.leo_terms.proofs.CallerLemmas.{old_bank, new_bank, extends-trans, type-kept, tree-kept, type_number-kept, trees-kept, are_terms-kept, type_of-term, term-typed, normal_form, put_in-is, type_number-within, normal_form-reduces, normal_form-normal, reduces_typed, bound-closed}
+use Rattle.leo_terms.proofs.CallerLemmas.{old_bank, new_bank, extends-trans, type-kept, tree-kept, trees-kept, are_terms-kept, type_of-term, normal_form, put_in-is, type_number-within, normal_form-reduces, normal_form-normal, reduces_typed, bound-closed}
 use Rattle.leo_clause.specs.Typed.{IsOver, AreTypesOf}
 use Rattle.leo_unify.specs.declared.pairs.Pair as declared
 use Rattle.leo_unify.specs.declared.state.State as declared_state
@@ -25,7 +24,7 @@ use Rattle.leo_unify.specs.Contexts.{AreBoundTo, IsPairIn, ArePairsIn, IsBinding
 use Rattle.leo_unify.specs.Views.{pair_at, binding_at, ArePairsOf, IsBindingOf}
 use Rattle.leo_unify.specs.States.{state_at, IsStateOf}
 use Rattle.leo_unify.proofs.Over.{over-range, over-reduces, over-substituted, bound-substituted, given-over}
-use Rattle.leo_unify.proofs.Growing.{types-kept, types-grow, types-append, pairs-kept, pairs-of-grow, pairs-of-end}
+use Rattle.leo_unify.proofs.Growing.{types-kept, types-grow, types-append, pairs-kept, pairs-of-grow}
 
 -- ---- on trees
 

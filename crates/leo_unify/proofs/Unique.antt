@@ -1,5 +1,5 @@
 -- A state has one list of first solutions.
-use Rattle.std.proofs.Common.{ℕ, zero, suc, ◌≡◌, ◌∙◌, ◌-◌, ◌≤◌, List, [], ◌∷◌, ◌++◌, length, refl, sym, ap, subst, arith}
+use Rattle.std.proofs.Common.{ℕ, zero, suc, ◌≡◌, ◌∙◌, ◌-◌, ◌≤◌, List, [], ◌∷◌, ◌++◌, length, refl, sym, arith}
 use Rattle.leo_unify.specs.Search.{State, Solution, Step, rests, fails, becomes, branches, step_of, solution_of, Finds, FindsAmong, enough, found, none, later, branched, at_end, in_turn}
 use Rattle.leo_unify.proofs.SearchLemmas.{finds-few, finds-few_among}
 

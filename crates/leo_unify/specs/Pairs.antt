@@ -1,9 +1,8 @@
 -- Pairs of terms, and the pairs of the arguments of two terms with one head.
-use Rattle.std.specs.Prelude.{ℕ, nat_eq, Bool, ◌&&◌, if◌then◌else◌, List, [], ◌∷◌, ◌++◌, Option, Some, None}
+use Rattle.std.specs.Prelude.{nat_eq, Bool, ◌&&◌, if◌then◌else◌, List, [], ◌∷◌, ◌++◌, Option, Some, None}
 use Rattle.std.specs.Option.{option_map}
 use Rattle.leo_q0.specs.Terms.{same_type}
-use Rattle.leo_terms.specs.Tree.{Tree, variable, bound, symbol, app, lam, logic, absent, Connective, truth, falsity, negation, disjunction, conjunction, implication, equality, universal, existential, choice}
-use Rattle.leo_clause.specs.Sameness.{same_tree}
+use Rattle.leo_terms.specs.Tree.{Tree, bound, symbol, app, logic, Connective, choice}
 
 -- two terms of one type that are to become equal; a loose index of both is the variable of a lambda that stood around both
 pub record Pair : Type 0 where

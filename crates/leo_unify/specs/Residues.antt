@@ -1,8 +1,8 @@
 -- What is left of a pair that was solved: the pairs in which both sides differ at once.
-use Rattle.std.specs.Prelude.{ℕ, nat_eq, Bool, true, false, ◌&&◌, if◌then◌else◌, List, [], ◌∷◌, ◌++◌, Option, Some, None, unwrap_or}
+use Rattle.std.specs.Prelude.{nat_eq, ◌&&◌, if◌then◌else◌, List, [], ◌∷◌, ◌++◌, Option, None, unwrap_or}
 use Rattle.std.specs.Option.{option_map}
 use Rattle.leo_q0.specs.Terms.{same_type}
-use Rattle.leo_terms.specs.Tree.{Tree, variable, bound, symbol, app, lam, logic, absent, Connective, truth, falsity, negation, disjunction, conjunction, implication, equality, universal, existential, choice}
+use Rattle.leo_terms.specs.Tree.{Tree, symbol, app, logic, Connective, choice}
 use Rattle.leo_clause.specs.Sameness.{same_tree}
 use Rattle.leo_unify.specs.Pairs.{Pair, if_same}
 

@@ -1,7 +1,7 @@
 -- Solutions as trees, and what holds of each.
 use Rattle.std.specs.Prelude.{◌≡◌, List, [], ◌∷◌, map}
 use Rattle.leo_q0.specs.Terms.{SimpleType}
-use Rattle.leo_terms.specs.Tree.{Tree, type_of}
+use Rattle.leo_terms.specs.Tree.{type_of}
 use Rattle.leo_terms.specs.Contents.{Contents, AreTerms, tree_at, type_at}
 use Rattle.leo_clause.specs.Typed.{AreTypesOf}
 use Rattle.leo_unify.specs.declared.sigma.Sigma.{Sigma}

@@ -1,5 +1,4 @@
-use Rattle.std.proofs.Common.{arith}
-use Rattle.leo_terms.proofs.CallerLemmas.{extends-itself, extends-trans, tree-kept}
+use Rattle.leo_terms.proofs.CallerLemmas.{extends-trans, tree-kept}
 use Rattle.leo_unify.proofs.ActSteps.{pair-flipped, sides-second, sides-stuck, sides-heads}
 use Rattle.leo_unify.proofs.Growing.{types-grow, types-kept}
 use Rattle.leo_unify.proofs.act.act_on_sides.Goals as goal

@@ -1,5 +1,4 @@
-use Rattle.std.proofs.Common.{◌≡◌, ◌∙◌, sym, not, nat_eq}
-use Rattle.leo_terms.specs.Contents.{type_number}
+use Rattle.std.proofs.Common.{◌∙◌, sym}
 use Rattle.leo_unify.proofs.ActSteps.{clash-decides}
 use Rattle.leo_unify.proofs.act.clashes.Goals as goal
 

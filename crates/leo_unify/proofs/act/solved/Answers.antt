@@ -1,6 +1,6 @@
-use Rattle.std.proofs.Common.{◌≡◌, ◌∙◌, sym, refl, arith}
-use Rattle.leo_terms.proofs.CallerLemmas.{extends-itself, extends-trans}
-use Rattle.leo_unify.proofs.ActSteps.{solved-body, solved-value, solved-uncovered, solved-none}
+use Rattle.std.proofs.Common.{◌∙◌, sym, arith}
+use Rattle.leo_terms.proofs.CallerLemmas.{extends-trans}
+use Rattle.leo_unify.proofs.ActSteps.{solved-body, solved-value, solved-uncovered}
 use Rattle.leo_unify.proofs.Growing.{types-grow}
 use Rattle.leo_unify.proofs.act.solved.Goals as goal
 

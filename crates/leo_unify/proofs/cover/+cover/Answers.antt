@@ -1,4 +1,4 @@
-use Rattle.std.proofs.Common.{◌∙◌, sym, refl}
+use Rattle.std.proofs.Common.{sym, refl}
 use Rattle.leo_terms.proofs.CallerLemmas.{reads-var, reads-sym, reads-bound, reads-app, reads-lam, reads-logic}
 use Rattle.leo_unify.proofs.CoverSteps.{covered-closed, covered-inside, covered-outside, first-fails, second-decides}
 use Rattle.leo_unify.proofs.cover.+cover.Goals as goal

@@ -1,4 +1,4 @@
-use Rattle.std.proofs.Common.{◌≡◌, ◌∙◌, sym, arith}
+use Rattle.std.proofs.Common.{◌∙◌, sym}
 use Rattle.leo_unify.proofs.PairLemmas.{choices-same, atoms-same}
 use Rattle.leo_unify.proofs.pairs.paired_heads.Goals as goal
 

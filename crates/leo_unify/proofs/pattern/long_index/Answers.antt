@@ -1,6 +1,6 @@
-use Rattle.std.proofs.Common.{◌≡◌, ◌∙◌, sym, arith, rules}
+use Rattle.std.proofs.Common.{◌∙◌, sym}
 use Rattle.leo_terms.proofs.CallerLemmas.{extends-itself, extends-trans, type_number-within}
-use Rattle.leo_unify.proofs.PatternSteps.{long-none, long-some}
+use Rattle.leo_unify.proofs.PatternSteps.{long-some}
 use Rattle.leo_unify.proofs.pattern.long_index.Goals as goal
 
 pub returns-in_err-index-clause-grows : goal.returns-in_err-index-clause-grows

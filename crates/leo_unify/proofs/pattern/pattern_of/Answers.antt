@@ -1,6 +1,5 @@
-use Rattle.std.proofs.Common.{◌≡◌, ◌∙◌, sym, ◌<◌, length, refl, arith}
-use Rattle.std.specs.Option.{option_map}
-use Rattle.leo_terms.proofs.CallerLemmas.{extends-itself, extends-trans, type_number-within, reads-var, reads-bound, reads-sym, reads-app, reads-lam, reads-logic, new_bank}
+use Rattle.std.proofs.Common.{◌∙◌, sym, ◌<◌, length, refl, arith}
+use Rattle.leo_terms.proofs.CallerLemmas.{extends-itself, extends-trans, type_number-within, reads-var, reads-bound, reads-sym, reads-app, reads-lam, reads-logic}
 use Rattle.leo_unify.proofs.Growing.{types-grow, types-end}
 use Rattle.leo_unify.proofs.PatternSteps.{before-app, before-no_app}
 use Rattle.leo_unify.proofs.pattern.pattern_of.Goals as goal

@@ -1,4 +1,4 @@
-use Rattle.std.proofs.Common.{◌∙◌, map, Some, None, sym, arith}
+use Rattle.std.proofs.Common.{◌∙◌, map, Some, None, sym}
 use Rattle.leo_unify.specs.Views.{pair_at}
 use Rattle.leo_unify.proofs.Growing.{pairs-of-append}
 use Rattle.leo_unify.proofs.PairLemmas.{residue-equal, residue-other, left-choices_same, left-symbols_same}

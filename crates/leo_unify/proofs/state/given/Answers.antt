@@ -1,5 +1,5 @@
 use Rattle.std.proofs.Common.{refl, arith}
-use Rattle.leo_terms.proofs.CallerLemmas.{extends-itself, extends-trans, tree-kept, trees-kept, are_terms-kept}
+use Rattle.leo_terms.proofs.CallerLemmas.{extends-itself, extends-trans, are_terms-kept}
 use Rattle.leo_unify.proofs.StateLemmas.{types-at, terms-end, no-terms, given-next}
 use Rattle.leo_unify.proofs.state.given.Goals as goal
 

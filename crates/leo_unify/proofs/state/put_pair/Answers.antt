@@ -1,4 +1,4 @@
-use Rattle.leo_terms.proofs.CallerLemmas.{extends-itself, extends-trans, tree-kept, trees-kept, are_terms-kept}
+use Rattle.leo_terms.proofs.CallerLemmas.{extends-trans, tree-kept, trees-kept}
 use Rattle.leo_unify.proofs.state.put_pair.Goals as goal
 
 pub put_term-requires-2-clause-given : goal.put_term-requires-2-clause-given

@@ -1,5 +1,4 @@
-use Rattle.std.proofs.Common.{refl, arith}
-use Rattle.leo_terms.proofs.CallerLemmas.{extends-itself, extends-trans, tree-kept, trees-kept, are_terms-kept}
+use Rattle.leo_terms.proofs.CallerLemmas.{extends-itself, extends-trans}
 use Rattle.leo_unify.proofs.Growing.{pairs-of-grow, pairs-of-end}
 use Rattle.leo_unify.proofs.StateLemmas.{left-within, right-within, left-given, right-given, pairs-next}
 use Rattle.leo_unify.proofs.state.put_pairs.Goals as goal

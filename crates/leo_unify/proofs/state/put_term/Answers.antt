@@ -1,4 +1,4 @@
-use Rattle.leo_terms.proofs.CallerLemmas.{extends-itself, extends-trans, tree-kept, trees-kept, are_terms-kept}
+use Rattle.leo_terms.proofs.CallerLemmas.{extends-trans}
 use Rattle.leo_unify.proofs.StateLemmas.{put-made}
 use Rattle.leo_unify.proofs.state.put_term.Goals as goal
 

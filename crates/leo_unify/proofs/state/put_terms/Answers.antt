@@ -1,6 +1,5 @@
-use Rattle.std.proofs.Common.{refl, arith}
-use Rattle.leo_terms.proofs.CallerLemmas.{extends-itself, extends-trans, tree-kept, trees-kept, are_terms-kept}
-use Rattle.leo_unify.proofs.StateLemmas.{term-within, term-given, terms-next, terms-end, no-terms, take-end}
+use Rattle.leo_terms.proofs.CallerLemmas.{extends-itself, extends-trans, are_terms-kept}
+use Rattle.leo_unify.proofs.StateLemmas.{term-within, term-given, terms-next, terms-end, no-terms}
 use Rattle.leo_unify.proofs.state.put_terms.Goals as goal
 
 pub loop-term-init : goal.loop-term-init
