@@ -1,0 +1,13 @@
+pub mod Growing
+pub mod Over
+pub mod PatternLemmas
+pub mod PatternSteps
+pub mod CoverSteps
+pub mod PairLemmas
+pub mod ActLemmas
+pub mod ActSteps
+pub mod StateLemmas
+pub mod SearchSteps
+pub mod SearchLemmas
+pub mod Unique
+pub mod GivenPairs

@@ -1,0 +1,13 @@
+pub mod Spines
+pub mod Pairs
+pub mod Patterns
+pub mod Residues
+pub mod Acts
+pub mod Search
+pub mod Contexts
+pub mod Tops
+pub mod Views
+pub mod States
+pub mod Solutions
+pub mod Given
+pub mod Laws

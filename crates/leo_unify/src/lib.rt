@@ -1,0 +1,22 @@
+//! Bounded higher-order unification.
+#![tactic(auto)]
+
+mod act;
+mod cover;
+pub mod laws;
+mod pairs;
+mod pattern;
+mod residues;
+mod search;
+mod sigma;
+mod solving;
+mod spine;
+mod state;
+
+pub use pairs::Pair;
+pub use residues::residue;
+pub use sigma::Sigma;
+pub use solving::solve;
+
+#[cfg(test)]
+mod tests;
