@@ -1,11 +1,9 @@
 -- The words that are kept of base types and symbols.
-use Rattle.std.proofs.Common.{ℕ, zero, suc, nat_eq, ◌≡◌, ◌∙◌, ◌+◌, ◌<◌, add-one, Bool, true, false, cond, List, [], ◌∷◌, ◌++◌, length, map, drop, max, slice_get, Option, Some, None, refl, sym, ap, arith}
+use Rattle.std.proofs.Common.{ℕ, zero, suc, nat_eq, ◌≡◌, ◌∙◌, ◌+◌, ◌<◌, add-one, Bool, true, false, cond, List, [], ◌∷◌, length, map, drop, max, slice_get, Option, Some, refl, sym, ap, arith}
 use Rattle.std.specs.Option.{option_map, option_map_or}
 use Rattle.std.proofs.lemmas.Option.{slice_get-map}
-use Rattle.leo_q0.specs.Terms.{SimpleType}
 use Rattle.leo_terms.specs.Contents.{Contents, type_at}
 use Rattle.leo_elab.specs.Table.{AreTypesIn, type_entry, constant_entry}
-use Rattle.leo_elab.specs.Problem.{Constant}
 use Rattle.leo_tstp.specs.Words.{atom_text}
 use Rattle.leo_tstp.specs.Vocabulary.{base_atom, is_base, symbol_atom, with_word, word_of, marks_in, most_marks}
 

@@ -4,7 +4,7 @@ ghost use Rattle.std.specs.Prelude.{[], ◌≡◌, ◌++◌, ◌+◌, ◌<◌, �
 ghost use Rattle.std.specs.Option.{option_map_or};
 ghost use Rattle.indexmap.specs.IndexMap.{get};
 ghost use Rattle.leo_terms.specs.Contents.{type_at};
-ghost use Rattle.leo_elab.specs.Table.{AreNamesOf, AreTypesIn, declared_in, type_entry, constant_entry};
+ghost use Rattle.leo_elab.specs.Table.{AreNamesOf, declared_in};
 ghost use Rattle.leo_kernel.specs.Steps.{rule_at};
 ghost use Rattle.leo_tstp.specs.Words.{atom_text};
 ghost use Rattle.leo_tstp.specs.Namings.{base_in, symbol_in, words_in};

@@ -10,7 +10,6 @@ ghost use Rattle.leo_tstp.specs.Derivations.{lines_text, printed};
 ghost use Rattle.leo_tstp.specs.Namings.{symbol_in, words_in};
 ghost use Rattle.leo_tstp.specs.Records.{AreSymbolsOf, IsSymbolOfRule};
 ghost use Rattle.leo_tstp.specs.StepTexts as spec;
-ghost use Rattle.leo_tstp.specs.Vocabulary.{with_rule};
 
 use crate::clauses::write_clause;
 use crate::hypotheses::write_hypotheses;
@@ -192,10 +191,10 @@ fn text_of(alloc: Global, problem: &Problem, lines: &[StepRecord]) -> Result<Vec
     Ok(text)
 }
 
-/// Appends the text of a derivation from the hypotheses of a problem: the hypotheses that its lines take, and the lines,
-/// each abbreviation behind the type statement of its symbol. A base type and a symbol have the word of the first atom
-/// that the problem declares as it, a symbol that was abbreviated has its new name from there on, and what has no name
-/// is left out. Where it answers that there is no memory, nothing is appended.
+/// Appends the text of a derivation from the hypotheses of a problem: the hypotheses that its lines take, and the
+/// lines, each abbreviation behind the type statement of its symbol. A base type and a symbol have the word of the
+/// first atom that the problem declares as it, a symbol that was abbreviated has its new name from there on, and what
+/// has no name is left out. Where it answers that there is no memory, nothing is appended.
 pub fn print(
     alloc: Global,
     problem: &Problem,

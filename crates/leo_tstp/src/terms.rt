@@ -1,7 +1,7 @@
 //! Types and terms as they are written.
 
 ghost use Rattle.std.specs.Prelude.{◌≡◌, ◌++◌, ◌+◌, ◌-◌, ◌<◌, length, codes, OnOk};
-ghost use Rattle.leo_terms.specs.Contents.{HasTypeBelow, IsArgumentBelow, argument, connective, tree_at, type_at};
+ghost use Rattle.leo_terms.specs.Contents.{IsArgumentBelow, argument, connective, tree_at, type_at};
 ghost use Rattle.leo_tstp.specs.Namings.{words_in};
 ghost use Rattle.leo_tstp.specs.TermTexts as spec;
 ghost use Rattle.leo_tstp.specs.TermTexts.{lambda_sign, type_text, signed_text, term_text};

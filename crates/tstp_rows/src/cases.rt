@@ -3,7 +3,7 @@
 ghost use Rattle.std.specs.Prelude.{◌<◌, length, IfOk, OnOk};
 ghost use Rattle.leo_clause.specs.Typed.{AreLiteralsOf};
 ghost use Rattle.leo_kernel.specs.Records.{AreStepsOf, AreTermsOfRule};
-ghost use Rattle.leo_problem.specs.Loading.{AreClosedFormulas, IsProblem};
+ghost use Rattle.leo_problem.specs.Loading.{AreClosedFormulas};
 ghost use Rattle.leo_tstp.specs.Records.{AreSymbolsOf, IsSymbolOfRule};
 ghost use Rattle.tstp_rows.specs.Given.{AreTermsIn};
 

@@ -1,6 +1,6 @@
 //! Lines of derivations, appended one after the other.
 
-ghost use Rattle.std.specs.Prelude.{◌≡◌, ◌<◌, [], ◌∷◌, length, true, false, OnOk};
+ghost use Rattle.std.specs.Prelude.{◌≡◌, ◌<◌, [], true, false, OnOk};
 ghost use Rattle.leo_clause.specs.Typed.{AreLiteralsOf, AreTypesOf};
 ghost use Rattle.leo_kernel.specs.Records.{AreStepsOf, AreTermsOfRule};
 ghost use Rattle.leo_tstp.specs.Records.{AreSymbolsOf, IsSymbolOfRule};

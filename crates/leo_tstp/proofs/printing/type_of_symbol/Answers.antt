@@ -1,4 +1,4 @@
-use Rattle.std.proofs.Common.{◌∙◌, sym, ap, length}
+use Rattle.std.proofs.Common.{◌∙◌, ap}
 use Rattle.leo_terms.specs.Contents.{Contents}
 use Rattle.leo_terms.proofs.CallerLemmas.{type_number-within}
 use Rattle.leo_tstp.proofs.printing.type_of_symbol.Goals as goal

@@ -1,5 +1,4 @@
 use Rattle.std.proofs.Common.{arith, rules}
-use Rattle.leo_terms.specs.Contents.{IsArrow}
 use Rattle.leo_terms.proofs.CallerLemmas.{reads-base, reads-arrow, arrow-parts}
 use Rattle.leo_tstp.proofs.terms.+typing.Goals as goal
 
