@@ -1,6 +1,6 @@
 -- The head of a term, and whether two heads meet.
 use Rattle.std.specs.Prelude.{ℕ, nat_eq, Bool, true, false, List, [], ◌∷◌}
-use Rattle.leo_terms.specs.Tree.{Tree, variable, bound, symbol, app, lam, logic, absent}
+use Rattle.leo_terms.specs.Tree.{Tree, variable, bound, symbol, app, lam, logic, absent, Connective}
 use Rattle.leo_clause.specs.Sameness.{same_connective}
 
 -- the term below its leading lambdas
@@ -27,20 +27,46 @@ applied_head absent = absent
 abbrev pub head : Tree → Tree
 head t = applied_head (below_lambdas t)
 
+-- what may meet: a variable, a symbol, a logical constant; anything else meets variables alone
+pub data Top : Type 0 where
+  some_variable : Top
+  one_symbol : ℕ → Top
+  one_constant : Connective → Top
+  other_top : Top
+
+abbrev pub top : Tree → Top
+top (variable n a) = some_variable
+top (symbol s a) = one_symbol s
+top (logic c x y) = one_constant c
+top (bound i a) = other_top
+top (app f x) = other_top
+top (lam a t) = other_top
+top absent = other_top
+
+-- two are the same symbol or the same logical constant; or one of them is a variable, and the second is a whole side
+abbrev pub tops_meet : Bool → Top → Top → Bool
+tops_meet whole some_variable some_variable = false
+tops_meet whole some_variable (one_symbol n) = whole
+tops_meet whole some_variable (one_constant d) = whole
+tops_meet whole some_variable other_top = whole
+tops_meet whole (one_symbol m) some_variable = whole
+tops_meet whole (one_symbol m) (one_symbol n) = nat_eq m n
+tops_meet whole (one_symbol m) (one_constant d) = false
+tops_meet whole (one_symbol m) other_top = false
+tops_meet whole (one_constant c) some_variable = whole
+tops_meet whole (one_constant c) (one_symbol n) = false
+tops_meet whole (one_constant c) (one_constant d) = same_connective c d
+tops_meet whole (one_constant c) other_top = false
+tops_meet whole other_top some_variable = whole
+tops_meet whole other_top (one_symbol n) = false
+tops_meet whole other_top (one_constant d) = false
+tops_meet whole other_top other_top = false
+
 -- the path leads to the whole term
 abbrev pub is_whole : List ℕ → Bool
 is_whole [] = true
 is_whole (n ∷ path) = false
 
--- the heads of two terms, the second at a path, are the same symbol or the same logical constant; or one of them is a
--- variable, and the path leads to the whole term
-abbrev pub tops_meet : List ℕ → Tree → Tree → Bool
-tops_meet path (variable m a) (variable n b) = false
-tops_meet path (variable m a) t = is_whole path
-tops_meet path (symbol m a) (symbol n b) = nat_eq m n
-tops_meet path (logic c x y) (logic d z w) = same_connective c d
-tops_meet path s (variable n b) = is_whole path
-tops_meet path s t = false
-
+-- the heads of two terms meet, of which the second is at this path
 abbrev pub heads_meet : List ℕ → Tree → Tree → Bool
-heads_meet path s t = tops_meet path (head s) (head t)
+heads_meet path s t = tops_meet (is_whole path) (top (head s)) (top (head t))
