@@ -1,4 +1,5 @@
--- Where the terms of a state and of a pair stand: which types variables and loose indices have. No public contract speaks of it.
+-- Where the terms of a state and of a pair stand: which types variables and loose indices have. Of these, public contracts speak of
+-- `AreTermsIn` alone.
 use Rattle.std.specs.Prelude.{ℕ, zero, suc, ◌≡◌, List, [], ◌∷◌, ◌++◌, slice_get, Some}
 use Rattle.leo_q0.specs.Terms.{SimpleType}
 use Rattle.leo_terms.specs.Tree.{Tree, type_of, substituted, IsBoundAt, IsGiven}
