@@ -12,9 +12,10 @@ use Rattle.leo_clause.specs.Typed.{IsOver}
 use Rattle.leo_clause.specs.Sameness.{same_tree}
 use Rattle.leo_unify.specs.Pairs.{Pair, and_pair, if_same, paired_constant, paired_arguments}
 use Rattle.leo_unify.specs.Patterns.{Pattern, pattern_of, is_covered, rebound, abstracted}
-use Rattle.leo_unify.specs.Acts.{Act, stay, replace, bind, refuse, stripped, removed, bound_by, solved, stuck, taken_apart, clashing, branching, tried, act}
-use Rattle.leo_unify.specs.Spines.{head, is_flex, is_rigid, is_variable}
+use Rattle.leo_unify.specs.Acts.{Act, stay, replace, bind, refuse, stripped, removed, bound_by, solved, stuck, taken_apart, clashing, branching, act}
+use Rattle.leo_unify.specs.Spines.{is_rigid, is_variable}
 use Rattle.leo_unify.specs.Contexts.{AreBoundTo, under, IsPairIn, ArePairsIn, IsBindingIn, IsActIn}
+use Rattle.leo_unify.proofs.Places.{some-same}
 use Rattle.leo_unify.proofs.Over.{over-append}
 use Rattle.leo_unify.proofs.PatternLemmas.{AreOrdered, IsPatternIn, pattern-typed, type_of-rebound, over-rebound, over-abstracted, bound-rebound_at}
 
@@ -39,9 +40,6 @@ get-less [] (z ∷ ys) p y e h = absurd (omega arith)
 get-less (x ∷ xs) [] p y e h = absurd (cc)
 get-less (x ∷ xs) (z ∷ ys) zero y e h = (x, refl)
 get-less (x ∷ xs) (z ∷ ys) (suc p) y e h = get-less xs ys p y (omega arith) h
-
-some-same : {X : Type 0} (x y : X) → Some x ≡ Some y → x ≡ y
-some-same x y e = cc
 
 module _ (vs : List SimpleType) (types : ℕ → SimpleType) (d : ℕ) (u : Tree) (over : IsOver vs d u) (bounds : AreBoundTo types u) where
   -- the body's indices have the types of the arguments
@@ -239,7 +237,7 @@ pub removed-in : (vs : List SimpleType) (b : Bool) → IsChosenIn vs (if b then 
 removed-in vs true = tt
 removed-in vs false = tt
 
--- ---- the whole, but for branches
+-- ---- the whole, but for guesses
 
 pub act-in : (vs : List SimpleType) (n d : ℕ) (l r : Tree) → IsWellTyped l → IsWellTyped r → IsPairIn vs (record { left = l; right = r }) → IsActIn vs (unwrap_or (branching n d l r) stay) → IsActIn vs (act n d l r)
 act-in vs n d l r v w h k =
@@ -250,21 +248,3 @@ act-in vs n d l r v w h k =
     (chosen-else vs (stuck l r) _ (refused-in vs (is_variable l || is_variable r))
     (chosen-else vs (taken_apart l r) _ (apart-in vs h.types h.depth l r (record { left_typed = v; right_typed = w; left_over = h.left_over; right_over = h.right_over; left_bound = h.left_bound; right_bound = h.right_bound }))
     (chosen-else vs (clashing l r) _ (refused-in vs (is_rigid l && (is_rigid r && not (same_type (type_of l) truth_type)))) k))))))
-
-tried-in_none : (vs : List SimpleType) (n : ℕ) (t h : Tree) → IsActIn vs (tried n 0 t h)
-tried-in_none vs n (variable m a) h = tt
-tried-in_none vs n (bound i a) h = tt
-tried-in_none vs n (symbol s a) h = tt
-tried-in_none vs n (app f x) h = tt
-tried-in_none vs n (lam a t) h = tt
-tried-in_none vs n (logic c x y) h = tt
-tried-in_none vs n absent h = tt
-
-pub branching-in_none : (vs : List SimpleType) (n : ℕ) (l r : Tree) → IsActIn vs (unwrap_or (branching n 0 l r) stay)
-branching-in_none vs n l r = by (is_flex l) (is_flex r)
-  where
-    by : (p q : Bool) → IsActIn vs (unwrap_or (if p && not q then Some (tried n 0 (head l) (head r)) else (if not p && q then Some (tried n 0 (head r) (head l)) else None)) stay)
-    by true false = tried-in_none vs n (head l) (head r)
-    by false true = tried-in_none vs n (head r) (head l)
-    by true true = tt
-    by false false = tt

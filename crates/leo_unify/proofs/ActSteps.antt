@@ -1,7 +1,8 @@
 -- The steps of the calls that choose what is done with a pair.
-use Rattle.std.proofs.Common.{ℕ, nat_eq, ◌≡◌, ◌∙◌, ◌<◌, Bool, true, false, not, ◌&&◌, ◌||◌, List, [], length, map, Option, Some, None, refl, sym, arith}
+use Rattle.std.proofs.Common.{ℕ, nat_eq, nat_lt, ◌≡◌, ◌∙◌, ◌<◌, ◌≤◌, Bool, true, false, not, ◌&&◌, ◌||◌, List, [], length, map, Option, Some, None, refl, sym, ap, arith}
 use Rattle.std.specs.Prelude.{unwrap_or}
 use Rattle.std.specs.Bool.{if◌then◌else◌}
+use Rattle.std.proofs.lemmas.Bool.Decides.{nat_tests}
 use Rattle.leo_q0.specs.Terms.{SimpleType, same_type}
 use Rattle.leo_terms.specs.Tree.{truth_type, Tree, variable, bound, symbol, app, lam, logic, absent, type_of}
 use Rattle.leo_terms.specs.Contents.{Contents, IsBank, Extends, IsTerm, tree_at, type_at, type_number}
@@ -11,9 +12,10 @@ use Rattle.leo_unify.specs.declared.pattern.Pattern as declared
 use Rattle.leo_clause.specs.Sameness.{same_tree}
 use Rattle.leo_unify.specs.Spines.{head, is_flex, is_variable}
 use Rattle.leo_unify.specs.Patterns.{pattern_of, is_covered, rebound, abstracted}
-use Rattle.leo_unify.specs.Acts.{Act, stay, replace, bind, refuse, solved, removed, stuck, branching, tried, act_on_heads, act_on_sides}
+use Rattle.leo_unify.specs.Acts.{Binding, Act, stay, replace, bind, refuse, branch, domains, bindings, solved, removed, stuck, branching, tried, act_on_heads, act_on_sides}
 use Rattle.leo_unify.specs.Contexts.{IsPairIn}
 use Rattle.leo_unify.specs.Views.{pattern_at, AreBodyTypes}
+use Rattle.leo_unify.proofs.Places.{length-map}
 use Rattle.leo_unify.proofs.Growing.{types-kept, same-terms}
 use Rattle.leo_unify.proofs.PairLemmas.{same-types}
 use Rattle.leo_unify.proofs.PatternLemmas.{IsPatternIn}
@@ -91,14 +93,34 @@ pub flex-both : (next depth : ℕ) (l r : Tree) (b : Bool) → b ≡ is_flex l �
 flex-both next depth l r true e f = rw (← e, ← f) refl
 flex-both next depth l r false e f = rw (← e, ← f) refl
 
-pub tried-none : (next : ℕ) (t h : Tree) → refuse ≡ tried next 0 t h
-tried-none next (variable n a) h = refl
-tried-none next (bound i a) h = refl
-tried-none next (symbol s a) h = refl
-tried-none next (app f x) h = refl
-tried-none next (lam a t) h = refl
-tried-none next (logic c x y) h = refl
-tried-none next absent h = refl
+or-true : (a : Bool) → (a || true) ≡ true
+or-true true = refl
+or-true false = refl
+
+pub tried-zero : (next depth n : ℕ) (a : SimpleType) (h : Tree) → depth ≡ 0 → refuse ≡ tried next depth (variable n a) h
+tried-zero next depth n a h e = rw e refl
+
+pub tried-many : (c : Contents) (next depth n : ℕ) (a : SimpleType) (h : Tree) (outer : List ℕ) → map (type_at c) outer ≡ domains a → 8 < length outer → refuse ≡ tried next depth (variable n a) h
+tried-many c next depth n a h outer e l =
+    let m : length (domains a) ≡ length outer = ap length (sym e) ∙ length-map (type_at c) outer in
+    let t : nat_lt 8 (length (domains a)) ≡ true = rw m (grind (arith, nat_tests)) in
+    rw (t, or-true (nat_eq depth 0)) refl
+
+pub tried-branch : (c : Contents) (next depth n : ℕ) (a : SimpleType) (h : Tree) (outer : List ℕ) (bs : List Binding) → (depth ≡ 0 → ⊥) → map (type_at c) outer ≡ domains a → length outer ≤ 8 → bs ≡ bindings n a next h → branch bs ≡ tried next depth (variable n a) h
+tried-branch c next depth n a h outer bs z e l v =
+    let m : length (domains a) ≡ length outer = ap length (sym e) ∙ length-map (type_at c) outer in
+    let t : nat_lt 8 (length (domains a)) ≡ false = rw m (grind (arith, nat_tests)) in
+    let u : nat_eq depth 0 ≡ false = grind (arith, nat_tests) in
+    rw (t, u, v) refl
+
+pub tried-other : (next depth : ℕ) (t h : Tree) → is_variable t ≡ false → refuse ≡ tried next depth t h
+tried-other next depth (variable n a) h e = absurd (cc)
+tried-other next depth (bound i a) h e = refl
+tried-other next depth (symbol s a) h e = refl
+tried-other next depth (app f x) h e = refl
+tried-other next depth (lam a t) h e = refl
+tried-other next depth (logic c x y) h e = refl
+tried-other next depth absent h e = refl
 
 module _ {a b c : Contents} (e : Extends a b) (f : Extends b c) (n d l r : ℕ) (pl : l < length a.terms) (pr : r < length a.terms) (h : None ≡ solved (tree_at a l) (tree_at a r)) where
   left-kept : tree_at c l ≡ tree_at a l

@@ -1,11 +1,15 @@
+pub mod Places
 pub mod Growing
 pub mod Over
 pub mod PatternLemmas
 pub mod PatternSteps
 pub mod CoverSteps
 pub mod PairLemmas
+pub mod GuessLemmas
+pub mod BodySteps
 pub mod ActLemmas
 pub mod ActSteps
+pub mod GuessSteps
 pub mod StateLemmas
 pub mod SearchSteps
 pub mod SearchLemmas

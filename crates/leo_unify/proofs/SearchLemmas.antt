@@ -4,10 +4,10 @@ use Rattle.std.proofs.lemmas.List.{map-append, length-append}
 use Rattle.leo_q0.specs.Terms.{SimpleType}
 use Rattle.leo_terms.specs.Tree.{type_of}
 use Rattle.leo_terms.specs.Contents.{Contents, Extends, tree_at, type_at}
-use Rattle.leo_terms.proofs.CallerLemmas.{extends-trans, tree-kept, trees-kept, are_terms-kept}
+use Rattle.leo_terms.proofs.CallerLemmas.{extends-trans, trees-kept, are_terms-kept}
 use Rattle.leo_unify.specs.declared.state.State as declared_state
 use Rattle.leo_unify.specs.declared.sigma.Sigma.{Sigma}
-use Rattle.leo_unify.specs.declared.act.Binding as declared_binding
+use Rattle.leo_unify.specs.declared.binding.Binding as declared_binding
 use Rattle.leo_unify.specs.declared.pairs.Pair as declared_pair
 use Rattle.leo_unify.specs.Pairs.{Pair}
 use Rattle.leo_unify.specs.Acts.{Binding}
@@ -16,6 +16,8 @@ use Rattle.leo_unify.specs.Search.{State, Solution, rests, becomes, branches, st
 use Rattle.leo_unify.specs.States.{state_at, IsStateOf}
 use Rattle.leo_unify.specs.Solutions.{sigma_at, IsSigmaOf, AreSigmasOf}
 use Rattle.leo_unify.specs.Views.{pair_at, binding_at, ArePairsOf, IsBindingOf, AreBindingsOf}
+use Rattle.leo_unify.proofs.Places.{get-at, get-mapped, take-at, length-map}
+use Rattle.leo_unify.proofs.GuessSteps.{binding-kept, binding-grows}
 use Rattle.leo_unify.proofs.Growing.{types-kept, types-grow, pairs-kept, pairs-of-grow, pairs-of-append}
 
 -- ---- how many are found
@@ -85,21 +87,6 @@ module _ {c d : Contents} (e : Extends c d) where
     terms_in = rw (types-kept e s.vars h.types_of, trees-kept e s.terms h.terms_of) h.terms_in;
     pairs_in = rw (types-kept e s.vars h.types_of, pairs-kept e s.pairs h.pairs_of) h.pairs_in;
   }
-
-  -- bindings
-  binding-kept : (b : declared_binding.Binding) → IsBindingOf c b → binding_at d b ≡ binding_at c b
-  binding-kept b h = rw (types-kept e b.fresh h.types_of, tree-kept e b.term h.within) refl
-
-  binding-grows : (b : declared_binding.Binding) → IsBindingOf c b → IsBindingOf d b
-  binding-grows b h = record { types_of = types-grow e b.fresh h.types_of; within = let l = h.within in let m = e.terms_more in omega arith }
-
-  pub bindings-kept : (bs : List declared_binding.Binding) → AreBindingsOf c bs → map (binding_at d) bs ≡ map (binding_at c) bs
-  bindings-kept [] h = refl
-  bindings-kept (b ∷ bs) h = rw (binding-kept b h.0, bindings-kept bs h.1) refl
-
-  pub bindings-grow : (bs : List declared_binding.Binding) → AreBindingsOf c bs → AreBindingsOf d bs
-  bindings-grow [] h = tt
-  bindings-grow (b ∷ bs) h = (binding-grows b h.0, bindings-grow bs h.1)
 
 pub sigmas-append : (c : Contents) (types : List SimpleType) (ss ts : List Sigma) → AreSigmasOf c types ss → AreSigmasOf c types ts → AreSigmasOf c types (ss ++ ts)
 sigmas-append c types [] ts h k = k
@@ -227,25 +214,6 @@ module _ {b c : Contents} (e : Extends b c) (p : declared_state.State) (h : IsSt
         rw z at k
 
 -- ---- the branches
-
-get-at : {X : Type 0} (xs : List X) (i : ℕ) (x : X) → i < length xs → x ≡ slice_index_or xs i x → slice_get xs i ≡ Some x
-get-at [] i x l e = absurd (omega arith)
-get-at (y ∷ xs) zero x l e = ap Some (sym e)
-get-at (y ∷ xs) (suc i) x l e = get-at xs i x (omega arith) e
-
-get-mapped : {X Y : Type 0} (f : X → Y) (xs : List X) (i : ℕ) (x : X) → slice_get xs i ≡ Some x → slice_get (map f xs) i ≡ Some (f x)
-get-mapped f [] i x e = absurd (cc)
-get-mapped f (y ∷ xs) zero x e = let g : y ≡ x = cc in rw g refl
-get-mapped f (y ∷ xs) (suc i) x e = get-mapped f xs i x e
-
-take-at : {X : Type 0} (xs : List X) (p : ℕ) (x : X) → slice_get xs p ≡ Some x → take (suc p) xs ≡ take p xs ++ x ∷ []
-take-at [] p x e = absurd (cc)
-take-at (y ∷ xs) zero x e = let f : y ≡ x = cc in rw f refl
-take-at (y ∷ xs) (suc p) x e = ap (λ zs. y ∷ zs) (take-at xs p x e)
-
-pub length-map : {X Y : Type 0} (f : X → Y) (xs : List X) → length (map f xs) ≡ length xs
-length-map f [] = refl
-length-map f (x ∷ xs) = ap suc (length-map f xs)
 
 take-all : {X : Type 0} (xs : List X) (n : ℕ) → length xs ≤ n → take n xs ≡ xs
 take-all [] zero l = refl

@@ -1,19 +1,19 @@
 -- The steps of the search.
-use Rattle.std.proofs.Common.{ℕ, zero, suc, ◌≡◌, ◌∙◌, ◌+◌, ◌<◌, ◌≤◌, true, false, List, [], ◌∷◌, ◌++◌, length, map, take, drop, slice_get, slice_index_or, Some, refl, sym, ap, arith}
-use Rattle.std.specs.Prelude.{unwrap_or}
+use Rattle.std.proofs.Common.{ℕ, zero, suc, ◌≡◌, ◌∙◌, ◌+◌, ◌<◌, ◌≤◌, true, false, List, [], ◌∷◌, ◌++◌, length, map, take, drop, slice_get, slice_index_or, Some, refl, arith}
 use Rattle.leo_q0.specs.Terms.{SimpleType}
-use Rattle.leo_terms.specs.Tree.{Tree}
 use Rattle.leo_terms.specs.Contents.{Contents, Extends, tree_at, type_at}
 use Rattle.leo_terms.proofs.CallerLemmas.{old_bank, tree-kept, term-typed}
 use Rattle.leo_unify.specs.declared.pairs.Pair as declared
 use Rattle.leo_unify.specs.declared.state.State as declared_state
 use Rattle.leo_unify.specs.Pairs.{Pair}
-use Rattle.leo_unify.specs.Acts.{Act, stay, replace, bind, refuse, branch, act, branching}
+use Rattle.leo_unify.specs.Acts.{Act, stay, replace, bind, refuse, branch, act}
 use Rattle.leo_unify.specs.Contexts.{IsPairIn, ArePairsIn, IsActIn}
 use Rattle.leo_unify.specs.Search.{State, Step, rests, done, step_from, step_of}
 use Rattle.leo_unify.specs.States.{state_at, IsStateOf}
 use Rattle.leo_unify.specs.Views.{pair_at, stays}
+use Rattle.leo_unify.proofs.Places.{get-at, get-mapped, drop-at, take-at, drop-all, length-map}
 use Rattle.leo_unify.proofs.Growing.{types-kept, pairs-of-at}
+use Rattle.leo_unify.proofs.GuessLemmas.{branching-in}
 use Rattle.leo_unify.proofs.ActLemmas.{act-in}
 
 -- ---- the first pair to which a case applies
@@ -31,30 +31,6 @@ done-stay s (replace ps) before behind x e = absurd (cc)
 done-stay s (bind b) before behind x e = absurd (cc)
 done-stay s refuse before behind x e = absurd (cc)
 done-stay s (branch bs) before behind x e = absurd (cc)
-
-drop-at : {X : Type 0} (xs : List X) (p : ℕ) (x : X) → slice_get xs p ≡ Some x → drop p xs ≡ x ∷ drop (suc p) xs
-drop-at [] p x e = absurd (cc)
-drop-at (y ∷ xs) zero x e = let f : y ≡ x = cc in rw f refl
-drop-at (y ∷ xs) (suc p) x e = drop-at xs p x e
-
-take-at : {X : Type 0} (xs : List X) (p : ℕ) (x : X) → slice_get xs p ≡ Some x → take (suc p) xs ≡ take p xs ++ x ∷ []
-take-at [] p x e = absurd (cc)
-take-at (y ∷ xs) zero x e = let f : y ≡ x = cc in rw f refl
-take-at (y ∷ xs) (suc p) x e = ap (λ zs. y ∷ zs) (take-at xs p x e)
-
-get-at : {X : Type 0} (xs : List X) (i : ℕ) (x : X) → i < length xs → x ≡ slice_index_or xs i x → slice_get xs i ≡ Some x
-get-at [] i x l e = absurd (omega arith)
-get-at (y ∷ xs) zero x l e = ap Some (sym e)
-get-at (y ∷ xs) (suc i) x l e = get-at xs i x (omega arith) e
-
-get-mapped : {X Y : Type 0} (f : X → Y) (xs : List X) (i : ℕ) (x : X) → slice_get xs i ≡ Some x → slice_get (map f xs) i ≡ Some (f x)
-get-mapped f [] i x e = absurd (cc)
-get-mapped f (y ∷ xs) zero x e = let g : y ≡ x = cc in rw g refl
-get-mapped f (y ∷ xs) (suc i) x e = get-mapped f xs i x e
-
-length-map : {X Y : Type 0} (f : X → Y) (xs : List X) → length (map f xs) ≡ length xs
-length-map f [] = refl
-length-map f (x ∷ xs) = ap suc (length-map f xs)
 
 pairs-in-at : (vs : List SimpleType) (ps : List Pair) → ArePairsIn vs ps → (i : ℕ) (p : Pair) → slice_get ps i ≡ Some p → IsPairIn vs p
 pairs-in-at vs [] h i p e = absurd (cc)
@@ -103,14 +79,13 @@ module _ {a c : Contents} (e : Extends a c) (s : declared_state.State) (h : IsSt
         let u = take-at (map (pair_at a) s.pairs) i (pair_at a p) (get-mapped (pair_at a) s.pairs i p found-at) in
         rw (one, u) (step-is ∙ done-stay (state_at a s d) o (take i (map (pair_at a) s.pairs)) (drop (suc i) (map (pair_at a) s.pairs)) _ t)
 
-    pub act-is-in : ((l r : Tree) → IsActIn (map (type_at a) s.vars) (unwrap_or (branching (length (map (type_at a) s.vars)) d l r) stay)) → IsActIn (map (type_at a) s.vars) o
-    act-is-in k = rw act-is (act-in (map (type_at a) s.vars) (length (map (type_at a) s.vars)) d (tree_at a p.left) (tree_at a p.right) (term-typed (old_bank e) p.left of-bank.0) (term-typed (old_bank e) p.right of-bank.1) old-pair-in (k (tree_at a p.left) (tree_at a p.right)))
-
-drop-all : {X : Type 0} (xs : List X) (n : ℕ) → length xs ≤ n → drop n xs ≡ []
-drop-all [] zero l = refl
-drop-all [] (suc n) l = refl
-drop-all (x ∷ xs) zero l = absurd (omega arith)
-drop-all (x ∷ xs) (suc n) l = drop-all xs n (omega arith)
+    pub act-is-in : IsActIn (map (type_at a) s.vars) o
+    act-is-in =
+        let v = term-typed (old_bank e) p.left of-bank.0 in
+        let w = term-typed (old_bank e) p.right of-bank.1 in
+        rw act-is
+        (act-in (map (type_at a) s.vars) (length (map (type_at a) s.vars)) d (tree_at a p.left) (tree_at a p.right) v w old-pair-in
+        (branching-in (map (type_at a) s.vars) d old-pair-in.depth (tree_at a p.left) (tree_at a p.right) v w old-pair-in.left_over old-pair-in.right_over old-pair-in.same_type))
 
 pub work-none : (a : Contents) (s : declared_state.State) (d i : ℕ) → length s.pairs ≤ i → step_of (state_at a s d) ≡ step_from (state_at a s d) (take i (map (pair_at a) s.pairs)) (drop i (map (pair_at a) s.pairs)) → step_of (state_at a s d) ≡ rests
 work-none a s d i l q =

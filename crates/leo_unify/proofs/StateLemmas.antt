@@ -15,7 +15,7 @@ use Rattle.leo_terms.proofs.CallerLemmas.{old_bank, new_bank, extends-trans, typ
 use Rattle.leo_clause.specs.Typed.{IsOver, AreTypesOf}
 use Rattle.leo_unify.specs.declared.pairs.Pair as declared
 use Rattle.leo_unify.specs.declared.state.State as declared_state
-use Rattle.leo_unify.specs.declared.act.Binding as declared_binding
+use Rattle.leo_unify.specs.declared.binding.Binding as declared_binding
 use Rattle.leo_unify.specs.Pairs.{Pair}
 use Rattle.leo_unify.specs.Acts.{Binding}
 use Rattle.leo_unify.specs.Search.{State, given_from, given_by, put, put_pair, with_binding, long_variables, start, Solution, Finds}
@@ -24,6 +24,7 @@ use Rattle.leo_unify.specs.Contexts.{AreBoundTo, IsPairIn, ArePairsIn, IsBinding
 use Rattle.leo_unify.specs.Views.{pair_at, binding_at, ArePairsOf, IsBindingOf}
 use Rattle.leo_unify.specs.States.{state_at, IsStateOf}
 use Rattle.leo_unify.proofs.Over.{over-range, over-reduces, over-substituted, bound-substituted, given-over}
+use Rattle.leo_unify.proofs.Places.{some-same, get-at, get-mapped, drop-at, take-at}
 use Rattle.leo_unify.proofs.Growing.{types-kept, types-grow, types-append, pairs-kept, pairs-of-grow}
 
 -- ---- on trees
@@ -98,9 +99,6 @@ given-get number t (b ∷ types) first (suc p) a h =
     let z : first + suc p ≡ suc first + p = omega arith in
     rw z (given-get number t types (suc first) p a h)
 
-some-same : {X : Type 0} (x y : X) → Some x ≡ Some y → x ≡ y
-some-same x y e = cc
-
 pub given-in : (vs : List SimpleType) (b : Binding) → IsBindingIn vs b → AreGivenOver vs (vs ++ b.fresh) (given_by b (vs ++ b.fresh))
 given-in vs b h n a e =
     let f = slice_get-append vs b.fresh n a e in
@@ -115,30 +113,6 @@ given-in vs b h n a e =
     here false q f g = (variable n a, g, refl, f)
 
 -- ---- the loops
-
-drop-at : {X : Type 0} (xs : List X) (p : ℕ) (x : X) → slice_get xs p ≡ Some x → drop p xs ≡ x ∷ drop (suc p) xs
-drop-at [] p x e = absurd (cc)
-drop-at (y ∷ xs) zero x e = ap (λ z. z ∷ xs) (some-same y x e)
-drop-at (y ∷ xs) (suc p) x e = drop-at xs p x e
-
-get-at : {X : Type 0} (xs : List X) (i : ℕ) (x : X) → i < length xs → x ≡ slice_index_or xs i x → slice_get xs i ≡ Some x
-get-at [] i x l e = absurd (omega arith)
-get-at (y ∷ xs) zero x l e = ap Some (sym e)
-get-at (y ∷ xs) (suc i) x l e = get-at xs i x (omega arith) e
-
-get-mapped : {X Y : Type 0} (f : X → Y) (xs : List X) (i : ℕ) (x : X) → slice_get xs i ≡ Some x → slice_get (map f xs) i ≡ Some (f x)
-get-mapped f [] i x e = absurd (cc)
-get-mapped f (y ∷ xs) zero x e = ap (λ z. Some (f z)) (some-same y x e)
-get-mapped f (y ∷ xs) (suc i) x e = get-mapped f xs i x e
-
-pub terms-end : (c : Contents) (ts : List ℕ) (t : ℕ) → AreTerms c ts → t < length c.terms → AreTerms c (ts ++ t ∷ [])
-terms-end c ts t h l i u e = go ts (λ j v f. h j v f) i e
-  where
-    go : (xs : List ℕ) → ((j v : ℕ) → slice_get xs j ≡ Some v → v < length c.terms) → (i : ℕ) → slice_get (xs ++ t ∷ []) i ≡ Some u → u < length c.terms
-    go [] k zero e = let f : t ≡ u = cc in rw (← f) l
-    go [] k (suc i) e = absurd (cc)
-    go (x ∷ xs) k zero e = k zero u e
-    go (x ∷ xs) k (suc i) e = go xs (λ j v f. k (suc j) v f) i e
 
 pub types-at : (c : Contents) (vars : List ℕ) → AreTypesOf c vars → (i a : ℕ) → i < length vars → a ≡ slice_index_or vars i a → a < length c.types
 types-at c [] h i a l e = absurd (omega arith)
@@ -155,9 +129,6 @@ given-next {b} {c} {d} e f vars number term p a r ts types lt h l at v g =
     let s : map (tree_at d) (ts ++ r ∷ []) ≡ map (tree_at c) ts ++ tree_at d r ∷ [] = map-append (tree_at d) ts (r ∷ []) ∙ ap (λ (xs : List Tree). xs ++ tree_at d r ∷ []) (trees-kept f ts h) in
     let k : map (tree_at c) ts ++ ((if nat_eq p number then tree_at b term else variable p (type_at b a)) ∷ given_from number (tree_at b term) (suc p) (drop (suc p) (map (type_at b) vars))) ≡ given_from number (tree_at b term) 0 (map (type_at b) vars) = rw m at g in
     rw (one, s, w) (append_assoc (map (tree_at c) ts) ((if nat_eq p number then tree_at b term else variable p (type_at b a)) ∷ []) (given_from number (tree_at b term) (suc p) (drop (suc p) (map (type_at b) vars))) ∙ k)
-
-pub no-terms : (c : Contents) → AreTerms c []
-no-terms c i t e = absurd (cc)
 
 -- ---- a term with others put in
 
@@ -190,12 +161,7 @@ pairs-end given [] (w ∷ ys) x y h p q = absurd h
 pairs-end given (z ∷ xs) [] x y h p q = absurd h
 
 take-next : {X : Type 0} (xs : List X) (i : ℕ) (x : X) → slice_get xs i ≡ Some x → take (i + 1) xs ≡ take i xs ++ x ∷ []
-take-next xs i x e = let f : i + 1 ≡ suc i = omega arith in rw f (go xs i x e)
-  where
-    go : {Y : Type 0} (xs : List Y) (i : ℕ) (x : Y) → slice_get xs i ≡ Some x → take (suc i) xs ≡ take i xs ++ x ∷ []
-    go [] i x e = absurd (cc)
-    go (y ∷ xs) zero x e = let f : y ≡ x = cc in rw f refl
-    go (y ∷ xs) (suc i) x e = ap (λ zs. y ∷ zs) (go xs i x e)
+take-next xs i x e = let f : i + 1 ≡ suc i = omega arith in rw f (take-at xs i x e)
 
 pub take-end : {X Y : Type 0} (f : X → Y) (xs : List X) (n : ℕ) → length xs ≤ n → take n (map f xs) ≡ map f xs
 take-end f [] zero l = refl

@@ -169,18 +169,19 @@ with_head number outer next h = record {
 abbrev pub takes_few : Tree → Bool
 takes_few h = nat_le (length (taken_by h)) 8
 
-abbrev pub is_index : Tree → Bool
-is_index (bound i a) = true
-is_index (variable n a) = false
-is_index (symbol s a) = false
-is_index (app f x) = false
-is_index (lam a t) = false
-is_index (logic c x y) = false
-is_index absent = false
+-- a symbol or a logical constant
+abbrev pub is_constant : Tree → Bool
+is_constant (symbol s a) = true
+is_constant (logic c x y) = true
+is_constant (variable n a) = false
+is_constant (bound i a) = false
+is_constant (app f x) = false
+is_constant (lam a t) = false
+is_constant absent = false
 
--- imitation: the head of the other side, if it is no index
+-- imitation: the head of the other side, if it is a symbol or a logical constant. The head of a rigid side in normal form is else an index
 abbrev pub imitations : ℕ → List SimpleType → ℕ → Tree → List Binding
-imitations number outer next h = if not (is_index h) && takes_few h then with_head number outer next h ∷ [] else []
+imitations number outer next h = if is_constant h && takes_few h then with_head number outer next h ∷ [] else []
 
 -- projections: those of the arguments that end in the result type of the variable
 abbrev pub projections : ℕ → List SimpleType → ℕ → SimpleType → List Tree → List Binding

@@ -7,6 +7,7 @@ pub mod Search
 pub mod Contexts
 pub mod Tops
 pub mod Views
+pub mod Heads
 pub mod States
 pub mod Solutions
 pub mod Given

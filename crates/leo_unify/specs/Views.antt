@@ -8,7 +8,7 @@ use Rattle.leo_unify.specs.declared.pattern.Pattern as declared
 use Rattle.leo_unify.specs.declared.pairs.Pair as declared_pair
 use Rattle.leo_unify.specs.declared.pairs.Application.{Application}
 use Rattle.leo_unify.specs.declared.pairs.Chosen.{Chosen}
-use Rattle.leo_unify.specs.declared.act.Binding as declared_binding
+use Rattle.leo_unify.specs.declared.binding.Binding as declared_binding
 use Rattle.leo_unify.specs.declared.act.Act as declared_act
 use Rattle.leo_unify.specs.declared.act.Act.TheVariants as act
 use Rattle.leo_unify.specs.Acts.{Binding, Act, stay, replace, bind, refuse, branch}

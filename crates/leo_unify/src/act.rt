@@ -4,28 +4,23 @@ ghost use Rattle.std.specs.Prelude.{◌≡◌, ◌<◌, ◌&&◌, ◌||◌, not,
 ghost use Rattle.std.specs.Option.{option_map};
 ghost use Rattle.leo_q0.specs.Terms.{same_type};
 ghost use Rattle.leo_terms.specs.Contents.{Extends, tree_at, type_at};
-ghost use Rattle.leo_terms.specs.Tree.{truth_type, type_of};
+ghost use Rattle.leo_terms.specs.Tree.{truth_type, type_of, variable};
 ghost use Rattle.leo_clause.specs.Typed.{AreTypesOf};
-ghost use Rattle.leo_unify.specs.Acts.{Act, act as act_of, act_on_heads as act_of_heads, act_on_sides as act_of_sides, branching, is_index, solved as solved_act, stay, stripped as stripped_act, tried as tried_act};
+ghost use Rattle.leo_unify.specs.Acts.{Act, act as act_of, act_on_heads as act_of_heads, act_on_sides as act_of_sides, branching, solved as solved_act, stay, stripped as stripped_act, tried as tried_act};
 ghost use Rattle.leo_unify.specs.Contexts.{IsPairIn};
 ghost use Rattle.leo_unify.specs.Spines.{is_rigid, is_variable as is_variable_tree};
 ghost use Rattle.leo_unify.specs.Views.{act_at, pair_at, IsActOf, IsOptionalActOf};
 
+use crate::binding::Binding;
 use crate::cover::{abstracted, is_covered, rebound};
+use crate::guesses::{FEW, bindings};
+use crate::heads::domains;
 use crate::pairs::{Pair, one_pair, paired};
 use crate::pattern::pattern_of;
 use crate::spine::{body_of, head, is_flex, is_variable};
 use leo_items::Items;
-use leo_terms::{Bank, DEPTH, TermId, TyId};
+use leo_terms::{Bank, DEPTH, TermId, TyId, View};
 use std::alloc::{AllocError, Global};
-
-/// A variable becomes a term, over the variables so far and fresh ones of these types behind them.
-#[derive(Drop)]
-pub(crate) struct Binding {
-    pub number: u32,
-    pub fresh: Items<TyId>,
-    pub term: TermId,
-}
 
 /// What is done with a pair.
 #[derive(Drop)]
@@ -121,6 +116,37 @@ fn clashes(bank: &Bank, l: TermId, r: TermId) -> bool
     bank.type_of(l) != TyId::truth()
 }
 
+/// What is done with a variable at the head of a flex side, and the head of the other side, which is rigid.
+fn guessed(
+    alloc: Global,
+    bank: &mut Bank,
+    vars: &[TyId],
+    depth: u8,
+    number: u32,
+    ty: TyId,
+    rigid: TermId,
+) -> Result<Act, AllocError>
+    requires ty { ty < length bank.old.types }
+    requires rigid { rigid < length bank.old.terms }
+    ensures value { IfOk result (λ a. act_at bank.new a ≡ tried_act (length vars.now) depth (variable number (type_at bank.old ty)) (tree_at bank.old rigid)) }
+    ensures within { IfOk result (IsActOf bank.new) }
+    ensures grows { Extends bank.old bank.new }
+{
+    bank.is_sound();
+    if depth == 0 {
+        return Ok(Act::Refuse);
+    }
+    let outer = domains(alloc, bank, ty)?;
+    if outer.len() > FEW {
+        return Ok(Act::Refuse);
+    }
+    let Ok(next) = u32::try_from(vars.len()) else {
+        return Err(AllocError);
+    };
+    let found = bindings(alloc, bank, number, ty, outer, next, rigid)?;
+    Ok(Act::Branch(found))
+}
+
 /// What is done with a flex side's head, and the head of the other side, which is rigid.
 fn tried(
     alloc: Global,
@@ -132,19 +158,20 @@ fn tried(
 ) -> Result<Act, AllocError>
     requires flex { flex < length bank.old.terms }
     requires rigid { rigid < length bank.old.terms }
-    requires vars { AreTypesOf bank.old vars.now }
-    requires depth { depth ≡ 0 }
     ensures value { IfOk result (λ a. act_at bank.new a ≡ tried_act (length vars.now) depth (tree_at bank.old flex) (tree_at bank.old rigid)) }
     ensures within { IfOk result (IsActOf bank.new) }
     ensures grows { Extends bank.old bank.new }
 {
     bank.is_sound();
-    let _ = alloc;
-    let _ = vars;
-    let _ = depth;
-    let _ = flex;
-    let _ = rigid;
-    Ok(Act::Refuse)
+    let ty = bank.type_of(flex);
+    match bank.view(flex) {
+        View::Var(number) => guessed(alloc, bank, vars, depth, number, ty, rigid),
+        View::Bound(_) => Ok(Act::Refuse),
+        View::Sym(_) => Ok(Act::Refuse),
+        View::App(_, _) => Ok(Act::Refuse),
+        View::Lam(_, _) => Ok(Act::Refuse),
+        View::Logic(_, _, _) => Ok(Act::Refuse),
+    }
 }
 
 /// What is done with two sides whose heads are no reason for another case.
@@ -157,8 +184,6 @@ fn act_on_flex(
 ) -> Result<Act, AllocError>
     requires left { pair.left < length bank.old.terms }
     requires right { pair.right < length bank.old.terms }
-    requires vars { AreTypesOf bank.old vars.now }
-    requires depth { depth ≡ 0 }
     ensures value { IfOk result (λ a. act_at bank.new a ≡ unwrap_or (branching (length vars.now) depth (tree_at bank.old pair.left) (tree_at bank.old pair.right)) stay) }
     ensures within { IfOk result (IsActOf bank.new) }
     ensures grows { Extends bank.old bank.new }
@@ -190,8 +215,6 @@ fn act_on_heads(
 ) -> Result<Act, AllocError>
     requires left { pair.left < length bank.old.terms }
     requires right { pair.right < length bank.old.terms }
-    requires vars { AreTypesOf bank.old vars.now }
-    requires depth { depth ≡ 0 }
     ensures value { IfOk result (λ a. act_at bank.new a ≡ act_of_heads (length vars.now) depth (tree_at bank.old pair.left) (tree_at bank.old pair.right)) }
     ensures within { IfOk result (IsActOf bank.new) }
     ensures grows { Extends bank.old bank.new }
@@ -232,7 +255,6 @@ fn act_on_sides(
     requires left { pair.left < length bank.old.terms }
     requires right { pair.right < length bank.old.terms }
     requires vars { AreTypesOf bank.old vars.now }
-    requires depth { depth ≡ 0 }
     requires typed { IsPairIn (map (type_at bank.old) vars.now) (pair_at bank.old pair) }
     ensures value { IfOk result (λ a. act_at bank.new a ≡ act_of_sides (length vars.now) depth (tree_at bank.old pair.left) (tree_at bank.old pair.right)) }
     ensures within { IfOk result (IsActOf bank.new) }
@@ -269,7 +291,6 @@ pub(crate) fn act_on(
     requires left { pair.left < length bank.old.terms }
     requires right { pair.right < length bank.old.terms }
     requires vars { AreTypesOf bank.old vars.now }
-    requires depth { depth ≡ 0 }
     requires typed { IsPairIn (map (type_at bank.old) vars.now) (pair_at bank.old pair) }
     ensures value { IfOk result (λ a. act_at bank.new a ≡ act_of (length vars.now) depth (tree_at bank.old pair.left) (tree_at bank.old pair.right)) }
     ensures within { IfOk result (IsActOf bank.new) }

@@ -2,7 +2,11 @@
 #![tactic(auto)]
 
 mod act;
+mod binding;
+mod bodies;
 mod cover;
+mod guesses;
+mod heads;
 pub mod laws;
 mod pairs;
 mod pattern;

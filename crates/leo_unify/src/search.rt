@@ -9,7 +9,8 @@ ghost use Rattle.leo_unify.specs.Solutions.{AreSigmasOf, sigma_at};
 ghost use Rattle.leo_unify.specs.States.{state_at, IsStateOf};
 ghost use Rattle.leo_unify.specs.Views.{act_at, binding_at, pair_at, stays, AreBindingsOf, IsActOf};
 
-use crate::act::{Act, Binding, act_on};
+use crate::act::{Act, act_on};
+use crate::binding::Binding;
 use crate::sigma::Sigma;
 use crate::state::{State, with_binding, with_pairs};
 use leo_items::Items;
@@ -39,7 +40,6 @@ fn is_stay(act: &Act) -> bool
 /// What is done with the first pair to which a case applies. Nothing is done where there is none.
 fn first_work(alloc: Global, bank: &mut Bank, state: &State, depth: u8) -> Result<Work, AllocError>
     requires state { IsStateOf bank.old state.now }
-    requires depth { depth ≡ 0 }
     ensures value { IfOk result (λ w. step_of (state_at bank.old state.now depth) ≡
         done (state_at bank.old state.now depth) (act_at bank.new w.act) (take w.place (map (pair_at bank.old) state.now.pairs)) (drop (w.place + 1) (map (pair_at bank.old) state.now.pairs)) rests) }
     ensures place { IfOk result (λ w. stays (act_at bank.new w.act) ≡ false → w.place < length state.now.pairs) }
@@ -85,7 +85,6 @@ pub(crate) fn search(
     wanted: usize,
 ) -> Result<Items<Sigma>, AllocError>
     requires state { IsStateOf bank.old state }
-    requires depth { depth ≡ 0 }
     ensures found { IfOk result (λ xs. Finds wanted (state_at bank.old state depth) (map (sigma_at bank.new) xs)) }
     ensures sigmas { IfOk result (AreSigmasOf bank.new (map type_of (map (tree_at bank.old) state.terms))) }
     ensures grows { Extends bank.old bank.new }
@@ -134,7 +133,6 @@ fn search_all(
     wanted: usize,
 ) -> Result<Items<Sigma>, AllocError>
     requires state { IsStateOf bank.old state.now }
-    requires depth { depth ≡ 0 }
     requires bindings { AreBindingsOf bank.old bindings.now }
     requires typed { AreBindingsIn (map (type_at bank.old) state.now.vars) (map (binding_at bank.old) bindings.now) }
     ensures found { IfOk result (λ xs. (d : ℕ) → FindsAmong wanted (map (with_binding_of (state_at bank.old state.now d) depth) (map (binding_at bank.old) bindings.now)) (map (sigma_at bank.new) xs)) }

@@ -57,8 +57,7 @@ fn as_pairs(alloc: Global, pairs: &[(TermId, TermId)]) -> Result<Items<Pair>, Al
 /// The substitutions that solve pairs of terms over variables of these types, in the order in which they are found, where at
 /// most `depth` guesses follow from one another; the first 16 of them, and all where there are fewer. Under a solution the
 /// sides of a pair are equal, or begin both with a variable, or are both formulas that begin with no variable. The sides are
-/// meant to be in normal form. Guesses are not made yet, so the depth is 0. Terms that are too large or too deep, and more
-/// than 2^32 steps of one branch, find no memory.
+/// meant to be in normal form. Terms that are too large or too deep, and more than 2^32 steps of one branch, find no memory.
 pub fn solve(
     alloc: Global,
     bank: &mut Bank,
@@ -68,7 +67,6 @@ pub fn solve(
 ) -> Result<Items<Sigma>, AllocError>
     requires vars { AreTypesOf bank.old vars.now }
     requires pairs { AreTypedPairs bank.old (map (type_at bank.old) vars.now) pairs.now }
-    requires depth { depth ≡ 0 }
     ensures found { IfOk result (λ xs. AreSolutions (map (type_at bank.old) vars.now) (map (pair_of bank.old) pairs.now) depth (map (sigma_at bank.new) xs)) }
     ensures sigmas { IfOk result (AreSigmasOf bank.new (map (type_at bank.old) vars.now)) }
     ensures grows { Extends bank.old bank.new }

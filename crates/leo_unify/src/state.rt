@@ -9,7 +9,7 @@ ghost use Rattle.leo_unify.specs.Search.{given_from, with_binding as with_bindin
 ghost use Rattle.leo_unify.specs.States.{state_at, IsStateOf};
 ghost use Rattle.leo_unify.specs.Views.{binding_at, pair_at, ArePairsOf, IsBindingOf};
 
-use crate::act::Binding;
+use crate::binding::Binding;
 use crate::pairs::Pair;
 use leo_items::Items;
 use leo_terms::{Bank, TermId, TyId};

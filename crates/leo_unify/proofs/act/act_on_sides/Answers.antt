@@ -1,6 +1,6 @@
 use Rattle.leo_terms.proofs.CallerLemmas.{extends-trans, tree-kept}
 use Rattle.leo_unify.proofs.ActSteps.{pair-flipped, sides-second, sides-stuck, sides-heads}
-use Rattle.leo_unify.proofs.Growing.{types-grow, types-kept}
+use Rattle.leo_unify.proofs.Growing.{types-kept}
 use Rattle.leo_unify.proofs.act.act_on_sides.Goals as goal
 
 pub solved-requires-in-None-clause-typed : goal.solved-requires-in-None-clause-typed
@@ -16,9 +16,6 @@ returns-then-is_stuck-clause-value c = sides-stuck c.solved.ensures.grows c.solv
 
 pub returns-then-is_stuck-clause-grows : goal.returns-then-is_stuck-clause-grows
 returns-then-is_stuck-clause-grows c = extends-trans c.solved.ensures.grows c.solved-in-None.ensures.grows
-
-pub act_on_heads-requires-clause-vars : goal.act_on_heads-requires-clause-vars
-act_on_heads-requires-clause-vars c = types-grow (extends-trans c.solved.ensures.grows c.solved-in-None.ensures.grows) c.args.vars.now c.requires.vars
 
 pub returns-in_err-act-in-None-second-clause-grows : goal.returns-in_err-act-in-None-second-clause-grows
 returns-in_err-act-in-None-second-clause-grows c = extends-trans (extends-trans c.solved.ensures.grows c.solved-in-None.ensures.grows) c.act_on_heads.ensures.grows

@@ -3,7 +3,8 @@ use Rattle.leo_terms.proofs.CallerLemmas.{extends-itself, extends-trans}
 use Rattle.leo_unify.specs.Search.{enough, none, at_end}
 use Rattle.leo_unify.specs.States.{state_at}
 use Rattle.leo_unify.specs.Views.{binding_at}
-use Rattle.leo_unify.proofs.SearchLemmas.{rest-finds, rest-sigmas, state-grows, bind-in, bind-types, bind-finds, replace-state, replace-types, replace-finds, next-binding, next-in, all-few, all-sigmas, all-found, all-taken, length-map}
+use Rattle.leo_unify.proofs.SearchLemmas.{rest-finds, rest-sigmas, state-grows, bind-in, bind-types, bind-finds, replace-state, replace-types, replace-finds, branch-in, branch-finds, branch-types, next-binding, next-in, all-few, all-sigmas, all-found, all-taken}
+use Rattle.leo_unify.proofs.Places.{length-map}
 use Rattle.leo_unify.proofs.search.+search.Goals.{search-in-Replace+in_ok-present-in-Replace, search-in-Bind+in_ok-present-in-Bind}
 use Rattle.leo_unify.proofs.search.+search.Goals as goal
 
@@ -19,9 +20,9 @@ pub search-loop-init : goal.search-loop-init
 search-loop-init m c =
     (extends-itself c.is_sound.ensures.sound, c.requires.state, refl, λ xs f. f)
 
-pub search-first_work-requires-clause-state : goal.search-first_work-requires-clause-state
-search-first_work-requires-clause-state m c =
-    c.loop.invariant.1
+pub search-first_work-requires : goal.search-first_work-requires
+search-first_work-requires m c =
+    record { state = c.loop.invariant.1 }
 
 pub search-returns-in_err-work-clause-grows : goal.search-returns-in_err-work-clause-grows
 search-returns-in_err-work-clause-grows m c =
@@ -66,6 +67,28 @@ search-returns-in-Refuse-clause-found m c =
 pub search-returns-in-Refuse-clause-grows : goal.search-returns-in-Refuse-clause-grows
 search-returns-in-Refuse-clause-grows m c =
     extends-trans c.loop.invariant.0 c.first_work.ensures.grows
+
+pub search-search_all-requires : goal.search-search_all-requires
+search-search_all-requires m c =
+    let k = c.in-Some.ensures in
+    (omega arith, (state-grows c.first_work.ensures.grows c.loop.present c.loop.invariant.1, (rw c.as_slice.ensures (rw c.in-Branch.is at c.in_ok-work.ensures.within), rw c.as_slice.ensures (branch-in c.first_work.ensures.grows c.loop.present c.loop.invariant.1 c.args.depth c.args.wanted c.in_ok-work.work.place c.in-Branch.bindings (rw c.in-Branch.is at c.in_ok-work.ensures.typed)))))
+
+pub search-returns-in_err-found-in-Branch-clause-grows : goal.search-returns-in_err-found-in-Branch-clause-grows
+search-returns-in_err-found-in-Branch-clause-grows m c =
+    extends-trans (extends-trans c.loop.invariant.0 c.first_work.ensures.grows) c.search_all.ensures.grows
+
+pub search-returns-in-Branch-clause-found : goal.search-returns-in-Branch-clause-found
+search-returns-in-Branch-clause-found m c =
+    let k = c.in-Some.ensures in
+    c.loop.invariant.3 _ (branch-finds c.first_work.ensures.grows c.loop.present c.loop.invariant.1 c.args.depth c.args.wanted c.in_ok-work.work.place c.in-Branch.bindings (rw c.in-Branch.is at c.in_ok-work.ensures.value) c.in-Some.left (omega arith) _ (rw c.as_slice.ensures at c.in_ok-found-in-Branch.ensures.found))
+
+pub search-returns-in-Branch-clause-sigmas : goal.search-returns-in-Branch-clause-sigmas
+search-returns-in-Branch-clause-sigmas m c =
+    branch-types c.first_work.ensures.grows c.loop.present c.loop.invariant.1 c.args.depth c.args.wanted c.in_ok-work.work.place c.in-Branch.bindings _ _ _ c.loop.invariant.2 c.in_ok-found-in-Branch.ensures.sigmas
+
+pub search-returns-in-Branch-clause-grows : goal.search-returns-in-Branch-clause-grows
+search-returns-in-Branch-clause-grows m c =
+    extends-trans (extends-trans c.loop.invariant.0 c.first_work.ensures.grows) c.search_all.ensures.grows
 
 pub search-returns-in_default-clause-grows : goal.search-returns-in_default-clause-grows
 search-returns-in_default-clause-grows m c =

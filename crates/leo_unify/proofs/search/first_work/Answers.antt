@@ -1,8 +1,6 @@
-use Rattle.std.proofs.Common.{◌∙◌, sym, refl, length, map}
-use Rattle.leo_terms.specs.Contents.{type_at}
+use Rattle.std.proofs.Common.{◌∙◌, sym, refl}
 use Rattle.leo_terms.proofs.CallerLemmas.{extends-itself, extends-trans}
 use Rattle.leo_unify.proofs.Growing.{types-grow}
-use Rattle.leo_unify.proofs.ActLemmas.{branching-in_none}
 use Rattle.leo_unify.proofs.SearchSteps.{left-of-bank, right-of-bank, pair-is-in, work-found, work-next, act-is-in}
 use Rattle.leo_unify.proofs.search.first_work.Goals as goal
 
@@ -36,7 +34,7 @@ returns-then-not-is_stay-clause-value c =
 
 pub returns-then-not-is_stay-clause-typed : goal.returns-then-not-is_stay-clause-typed
 returns-then-not-is_stay-clause-typed c =
-    act-is-in c.loop-place.invariant.0 c.args.state.now c.requires.state c.loop-place.place c.index-pairs-place.result (rw c.as_slice-pairs.ensures at c.loop-place-test.true) (rw c.as_slice-pairs.ensures at c.index-pairs-place.is) c.args.depth _ (rw c.as_slice.ensures at c.in_ok-act.ensures.value) c.loop-place.invariant.1 (λ l r. rw c.requires.depth (branching-in_none (map (type_at c.args.bank.now) c.args.state.now.vars) (length (map (type_at c.args.bank.now) c.args.state.now.vars)) l r))
+    act-is-in c.loop-place.invariant.0 c.args.state.now c.requires.state c.loop-place.place c.index-pairs-place.result (rw c.as_slice-pairs.ensures at c.loop-place-test.true) (rw c.as_slice-pairs.ensures at c.index-pairs-place.is) c.args.depth _ (rw c.as_slice.ensures at c.in_ok-act.ensures.value) c.loop-place.invariant.1
 
 pub returns-then-not-is_stay-clause-grows : goal.returns-then-not-is_stay-clause-grows
 returns-then-not-is_stay-clause-grows c =

@@ -10,9 +10,9 @@ pub returns-in_err-kinds-clause-grows : goal.returns-in_err-kinds-clause-grows
 returns-in_err-kinds-clause-grows c =
     extends-itself c.is_sound.ensures.sound
 
-pub search-requires-clause-state : goal.search-requires-clause-state
-search-requires-clause-state c =
-    rw (c.in_ok-kinds.ensures, c.in_ok-pairs.ensures) (start-state c.long_variables.ensures.grows c.args.vars.now c.requires.vars c.args.pairs.now c.requires.pairs c.in_ok-terms.terms c.in_ok-terms.ensures.value c.in_ok-terms.ensures.terms)
+pub search-requires : goal.search-requires
+search-requires c =
+    record { state = rw (c.in_ok-kinds.ensures, c.in_ok-pairs.ensures) (start-state c.long_variables.ensures.grows c.args.vars.now c.requires.vars c.args.pairs.now c.requires.pairs c.in_ok-terms.terms c.in_ok-terms.ensures.value c.in_ok-terms.ensures.terms) }
 
 pub returns-in_err-found-clause-grows : goal.returns-in_err-found-clause-grows
 returns-in_err-found-clause-grows c =

@@ -1,6 +1,7 @@
 use Rattle.std.proofs.Common.{refl, arith}
 use Rattle.leo_terms.proofs.CallerLemmas.{extends-itself, extends-trans, are_terms-kept}
-use Rattle.leo_unify.proofs.StateLemmas.{types-at, terms-end, no-terms, given-next}
+use Rattle.leo_unify.proofs.StateLemmas.{types-at, given-next}
+use Rattle.leo_unify.proofs.BodySteps.{terms-end, no-terms}
 use Rattle.leo_unify.proofs.state.given.Goals as goal
 
 pub loop-place-init : goal.loop-place-init

@@ -1,5 +1,6 @@
 use Rattle.leo_terms.proofs.CallerLemmas.{extends-itself, extends-trans, are_terms-kept}
-use Rattle.leo_unify.proofs.StateLemmas.{term-within, term-given, terms-next, terms-end, no-terms}
+use Rattle.leo_unify.proofs.StateLemmas.{term-within, term-given, terms-next}
+use Rattle.leo_unify.proofs.BodySteps.{terms-end, no-terms}
 use Rattle.leo_unify.proofs.state.put_terms.Goals as goal
 
 pub loop-term-init : goal.loop-term-init
