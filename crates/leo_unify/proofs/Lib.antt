@@ -14,4 +14,5 @@ pub mod StateLemmas
 pub mod SearchSteps
 pub mod SearchLemmas
 pub mod Unique
+pub mod OriginLemmas
 pub mod GivenPairs

@@ -11,4 +11,5 @@ pub mod Heads
 pub mod States
 pub mod Solutions
 pub mod Given
+pub mod Origins
 pub mod Laws
