@@ -1,4 +1,4 @@
--- The tops of terms, as the calls that look at them say. No public contract speaks of it.
+-- The tops of terms, as the calls that look at them say.
 use Rattle.std.specs.Prelude.{Bool, true, false, Option, Some, None}
 use Rattle.leo_q0.specs.Terms.{SimpleType}
 use Rattle.leo_terms.specs.Tree.{Tree, variable, bound, symbol, app, lam, logic, absent, Connective, truth, falsity, negation, disjunction, conjunction, implication, equality, universal, existential, choice}

@@ -1,4 +1,5 @@
--- What the numbers of a bank say in pairs, patterns, bindings and acts. Of these, public contracts speak of pairs alone.
+-- What the numbers of a bank say in pairs, patterns, bindings and acts. Of these, public contracts speak of
+-- pairs, applications and chosen things alone.
 use Rattle.std.specs.Prelude.{ℕ, ◌≡◌, ◌<◌, List, [], ◌∷◌, length, map, slice_get, Bool, true, false, Option, Some, None}
 use Rattle.leo_q0.specs.Terms.{SimpleType}
 use Rattle.leo_terms.specs.Tree.{Tree, IsBoundAt}

@@ -17,7 +17,7 @@ mod solving;
 mod spine;
 mod state;
 
-pub use pairs::Pair;
+pub use pairs::{Application, Chosen, Pair, application_of, choice_of, is_symbol};
 pub use residues::residue;
 pub use sigma::Sigma;
 pub use solving::solve;

@@ -20,21 +20,21 @@ pub struct Pair {
 }
 
 /// A function and its argument.
-#[derive(Clone, Copy)]
-pub(crate) struct Application {
+#[derive(Clone, Copy, Debug, PartialEq, Eq)]
+pub struct Application {
     pub function: TermId,
     pub argument: TermId,
 }
 
 /// The choice of a thing of a type that has a property.
-#[derive(Clone, Copy)]
-pub(crate) struct Chosen {
+#[derive(Clone, Copy, Debug, PartialEq, Eq)]
+pub struct Chosen {
     pub ty: TyId,
     pub property: TermId,
 }
 
 /// The parts of an application.
-pub(crate) fn application_of(bank: &Bank, t: TermId) -> Option<Application>
+pub fn application_of(bank: &Bank, t: TermId) -> Option<Application>
     requires { t < length bank.now.terms }
     ensures value { option_map (application_at bank.now) result ≡ application_of_tree (tree_at bank.now t) }
     ensures function { IfSome result (λ a. a.function < t) }
@@ -51,7 +51,7 @@ pub(crate) fn application_of(bank: &Bank, t: TermId) -> Option<Application>
 }
 
 /// The parts of a choice, where it is applied to nothing.
-pub(crate) fn choice_of(bank: &Bank, t: TermId) -> Option<Chosen>
+pub fn choice_of(bank: &Bank, t: TermId) -> Option<Chosen>
     requires { t < length bank.now.terms }
     ensures value { option_map (chosen_at bank.now) result ≡ choice_of_tree (tree_at bank.now t) }
     ensures property { IfSome result (λ a. a.property < t) }
@@ -97,7 +97,7 @@ fn is_atom(bank: &Bank, t: TermId) -> bool
 }
 
 /// Whether a term is a symbol.
-pub(crate) fn is_symbol(bank: &Bank, t: TermId) -> bool
+pub fn is_symbol(bank: &Bank, t: TermId) -> bool
     requires { t < length bank.now.terms }
     ensures { result ≡ is_symbol_tree (tree_at bank.now t) }
 {

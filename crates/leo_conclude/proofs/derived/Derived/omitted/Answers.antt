@@ -1,0 +1,7 @@
+use Rattle.std.proofs.Common.{[], refl}
+use Rattle.leo_conclude.proofs.Changing.{omitted-changed}
+use Rattle.leo_conclude.proofs.derived.Derived.omitted.Goals as goal
+
+pub returns : goal.returns
+returns c = λ front back l is count never.
+    omitted-changed c.args.bank.now c.is_sound.ensures.sound c.args.self c.in_ok-derived.derived c.in_ok-clause.clause c.args.at [] c.requires.typed c.in_ok-clause.ensures.vars c.in_ok-clause.ensures.lits tt c.in_ok-derived.ensures.clause refl (rw (c.line-parent.ensures, c.in_ok-lit.ensures) at c.in_ok-derived.ensures.records) front back l is count never

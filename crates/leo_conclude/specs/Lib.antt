@@ -1,0 +1,4 @@
+pub mod Conclusions
+pub mod Leaving
+pub mod Deriving
+pub mod Results
