@@ -4,10 +4,12 @@
 mod due;
 mod heads;
 pub mod laws;
+mod member;
 mod spots;
 mod truths;
 
 pub use due::{Found, members};
+pub use member::Due;
 
 #[cfg(test)]
 mod tests;
