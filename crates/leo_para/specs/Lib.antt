@@ -5,3 +5,5 @@ pub mod Laws
 pub mod Reading
 pub mod Truths
 pub mod Found
+pub mod Dues
+pub mod Concluding
