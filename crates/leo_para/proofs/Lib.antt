@@ -11,3 +11,4 @@ mod Replaced
 mod Joined
 mod Stepping
 mod Listing
+mod Adding

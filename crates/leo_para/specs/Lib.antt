@@ -1,6 +1,7 @@
 pub mod Spines
 pub mod Places
 pub mod Members
+pub mod Occurring
 pub mod Laws
 pub mod Reading
 pub mod Truths
