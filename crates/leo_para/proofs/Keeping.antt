@@ -43,7 +43,7 @@ over-moved vs ws (lam a t) d h = over-moved vs ws t (d + 1) h
 over-moved vs ws (logic c x y) d h = (over-moved vs ws x d h.0, over-moved vs ws y d h.1)
 over-moved vs ws absent d h = tt
 
-type-moved : (n : ℕ) (t : Tree) → type_of (shifted n t) ≡ type_of t
+pub type-moved : (n : ℕ) (t : Tree) → type_of (shifted n t) ≡ type_of t
 type-moved n (variable m a) = refl
 type-moved n (bound i a) = refl
 type-moved n (symbol s a) = refl
@@ -114,7 +114,7 @@ module _ (vs : List SimpleType) where
   typed-placed : (ls : List Literal) (i : ℕ) (new : List Literal) → AreTyped vs ls → AreTyped vs new → AreTyped vs (with_literals ls i new)
   typed-placed ls i new h k = typed-append (take i ls) (new ++ drop (suc i) ls) (typed-take i ls h) (typed-append new (drop (suc i) ls) k (typed-drop (suc i) ls h))
 
-  typed-get : (ls : List Literal) (i : ℕ) (l : Literal) → slice_get ls i ≡ Some l → AreTyped vs ls → IsTypedLiteral vs l
+  pub typed-get : (ls : List Literal) (i : ℕ) (l : Literal) → slice_get ls i ≡ Some l → AreTyped vs ls → IsTypedLiteral vs l
   typed-get [] i l e h = (let f : ⊥ = cc in absurd f)
   typed-get (k ∷ ls) zero l e h = let f : k ≡ l = some-value e in rw (← f) h.0
   typed-get (k ∷ ls) (suc i) l e h = typed-get ls i l e h.1
@@ -127,7 +127,7 @@ module _ (vs : List SimpleType) where
   other-over Left l h = h.right_over
   other-over Right l h = h.left_over
 
-  other-type : (s : Side) (l : Literal) → IsTypedLiteral vs l → type_of (other_side_of s l) ≡ type_of (side_of s l)
+  pub other-type : (s : Side) (l : Literal) → IsTypedLiteral vs l → type_of (other_side_of s l) ≡ type_of (side_of s l)
   other-type Left l h = sym h.same_type
   other-type Right l h = h.same_type
 
@@ -146,7 +146,7 @@ typed-moved : (vs ws : List SimpleType) (ls : List Literal) → AreTyped ws ls �
 typed-moved vs ws [] h = tt
 typed-moved vs ws (l ∷ ls) h = (literal-moved vs ws l h.0, typed-moved vs ws ls h.1)
 
-side-moved : (side : Side) (n : ℕ) (l : Literal) → side_of side (shifted_literal n l) ≡ shifted n (side_of side l)
+pub side-moved : (side : Side) (n : ℕ) (l : Literal) → side_of side (shifted_literal n l) ≡ shifted n (side_of side l)
 side-moved Left n l = refl
 side-moved Right n l = refl
 

@@ -6,3 +6,9 @@ mod Spotting
 mod Comparing
 mod Looping
 mod Ending
+mod Moved
+mod Replaced
+mod Joined
+mod Stepping
+mod Listing
+mod Adding

@@ -1,7 +1,10 @@
 pub mod Spines
 pub mod Places
 pub mod Members
+pub mod Occurring
 pub mod Laws
 pub mod Reading
 pub mod Truths
 pub mod Found
+pub mod Dues
+pub mod Concluding

@@ -42,7 +42,7 @@ pub(crate) struct Target {
 
 /// A paramodulation that is due.
 #[derive(Drop)]
-pub struct Found {
+pub(crate) struct Found {
     /// The number of the equation among the literals of the first clause, the equation, and its side that is looked for.
     pub literal: usize,
     pub equation: Lit,
@@ -261,7 +261,7 @@ pub(crate) fn members_of(
 /// # Errors
 ///
 /// Want of memory, also where a term is deeper than [`leo_terms::DEPTH`] levels.
-pub fn members(
+pub(crate) fn members(
     alloc: Global,
     bank: &mut Bank,
     from: &Clause,

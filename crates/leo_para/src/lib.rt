@@ -1,13 +1,16 @@
-//! Paramodulation between clauses: which members are due.
+//! Paramodulation between clauses: which members are due, and their steps.
 #![tactic(auto)]
 
+mod concluding;
 mod due;
 mod heads;
 pub mod laws;
+mod member;
+mod moving;
+mod paramodulation;
+mod replacing;
 mod spots;
 mod truths;
 
-pub use due::{Found, members};
-
-#[cfg(test)]
-mod tests;
+pub use member::Due;
+pub use paramodulation::para;
