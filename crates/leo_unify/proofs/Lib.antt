@@ -15,4 +15,3 @@ pub mod SearchSteps
 pub mod SearchLemmas
 pub mod Unique
 pub mod OriginLemmas
-pub mod GivenPairs

@@ -1,5 +1,5 @@
 -- The base types and the symbols of solutions are those of the pairs.
-use Rattle.std.proofs.Common.{ℕ, zero, suc, nat_eq, nat_lt, ◌≡◌, ◌+◌, ◌-◌, Bool, true, false, not, ◌&&◌, ◌||◌, List, [], ◌∷◌, ◌++◌, length, map, slice_get, Option, Some, None, refl, sym, ap}
+use Rattle.std.proofs.Common.{ℕ, zero, suc, nat_eq, nat_lt, ◌≡◌, ◌+◌, ◌-◌, Bool, true, false, not, ◌&&◌, ◌||◌, List, [], ◌∷◌, ◌++◌, length, map, slice_get, Option, Some, None, refl}
 use Rattle.std.specs.Prelude.{unwrap_or}
 use Rattle.std.specs.Bool.{if◌then◌else◌}
 use Rattle.std.specs.Option.{option_map, option_and_then}
@@ -8,11 +8,11 @@ use Rattle.leo_terms.specs.Tree.{codomain, truth_type, Tree, variable, bound, sy
 use Rattle.leo_terms.specs.NormalForm.{type_size, applied, put_by, put_within, contracted, expanded, eta_long, normal_form}
 use Rattle.leo_clause.specs.Sameness.{same_tree}
 use Rattle.leo_clause.specs.Arranging.{place_in}
-use Rattle.leo_unify.specs.Spines.{below_lambdas, applied_head, head, is_variable, is_flex, is_rigid}
+use Rattle.leo_unify.specs.Spines.{applied_head, head, is_variable, is_flex, is_rigid}
 use Rattle.leo_unify.specs.Pairs.{Pair, and_pair, if_same, paired_constant, paired_arguments}
 use Rattle.leo_unify.specs.Patterns.{Pattern, new_index, pattern_before, pattern_of, is_covered, rebound, abstracted}
-use Rattle.leo_unify.specs.Acts.{Binding, Act, stay, replace, bind, refuse, branch, body_of, stripped, removed, bound_by, solved, stuck, taken_apart, clashing, domains, result_type, function_type, constant_domains, taken_by, applied_to, constant_with, headed, function_of, binders, fresh_values, with_head, takes_few, is_constant, imitations, projections, bindings, tried, branching, act_on_heads, act_on_sides, act}
-use Rattle.leo_unify.specs.Search.{State, Solution, given_from, given_by, put, put_pair, with_binding, with_pairs, Step, rests, fails, becomes, branches, done, step_from, step_of, solution_of, Finds, FindsAmong, enough, found, none, later, branched, at_end, in_turn, long_variables, start}
+use Rattle.leo_unify.specs.Acts.{Binding, Act, stay, replace, bind, refuse, branch, stripped, removed, bound_by, solved, stuck, taken_apart, clashing, domains, result_type, function_type, constant_domains, taken_by, applied_to, constant_with, headed, function_of, binders, fresh_values, with_head, takes_few, is_constant, imitations, projections, bindings, tried, branching, act}
+use Rattle.leo_unify.specs.Search.{State, Solution, given_from, given_by, put, put_pair, with_binding, Step, rests, fails, becomes, branches, done, step_from, step_of, Finds, FindsAmong, enough, found, none, later, branched, at_end, in_turn, long_variables, start}
 use Rattle.leo_unify.specs.Origins.{Origin, IsTypeFrom, AreTypesFrom, IsConstantFrom, IsTermFrom, AreTermsFrom, ArePairsFrom, AreSolutionsFrom}
 
 module _ (o : Origin) (zero_base : o.has_base 0 ≡ true) where

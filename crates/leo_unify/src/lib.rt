@@ -21,6 +21,3 @@ pub use pairs::{Application, Chosen, Pair, application_of, choice_of, is_symbol}
 pub use residues::residue;
 pub use sigma::Sigma;
 pub use solving::solve;
-
-#[cfg(test)]
-mod tests;

@@ -1,0 +1,3 @@
+pub mod Ready
+mod Overs
+pub mod Pairs

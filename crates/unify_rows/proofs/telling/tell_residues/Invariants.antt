@@ -1,0 +1,5 @@
+use Rattle.unify_rows.specs.Boards.{IsBoard}
+use Rattle.unify_rows.proofs.telling.tell_residues.Given as goal
+
+abbrev pub invariant-loop-text : goal.invariant-loop-text
+invariant-loop-text g l = IsBoard l.bank l.board
