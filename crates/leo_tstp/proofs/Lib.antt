@@ -1,3 +1,9 @@
 pub mod Writing
 pub mod Wording
 pub mod Prefixes
+pub mod Built
+pub mod Recorded
+pub mod Worded
+pub mod Learned
+pub mod Stepped
+pub mod Problems

@@ -7,3 +7,8 @@ pub mod Derivations
 pub mod Records
 pub mod Namings
 pub mod Laws
+pub mod TextWords
+pub mod NewSymbols
+pub mod Read
+pub mod Built
+pub mod Known

@@ -103,7 +103,7 @@ fn write_negation(
 }
 
 /// Appends the hypothesis of that number.
-fn write_hypothesis(
+pub(crate) fn write_hypothesis(
     alloc: Global,
     bank: &Bank,
     namer: &Namer,

@@ -170,7 +170,11 @@ fn write_lines(
 
 /// The text of a derivation.
 #[tactic(auto, unfolding(crate::specs::Derivations::printed))]
-fn text_of(alloc: Global, problem: &Problem, lines: &[StepRecord]) -> Result<Vec<u8>, AllocError>
+pub(crate) fn text_of(
+    alloc: Global,
+    problem: &Problem,
+    lines: &[StepRecord],
+) -> Result<Vec<u8>, AllocError>
     requires problem { IsProblem problem.now }
     requires lines { AreStepsOf problem.now.bank lines.now }
     requires symbols { AreSymbolsOf problem.now.bank lines.now }

@@ -49,7 +49,7 @@ fn status_word(bank: &Bank, rule: &Rule) -> &'static [u8]
     }
 }
 
-fn side_word(side: Side) -> &'static [u8]
+pub(crate) fn side_word(side: Side) -> &'static [u8]
     ensures { result.now ≡ spec.side_word side }
 {
     match side {
@@ -58,7 +58,7 @@ fn side_word(side: Side) -> &'static [u8]
     }
 }
 
-fn half_word(half: Half) -> &'static [u8]
+pub(crate) fn half_word(half: Half) -> &'static [u8]
     ensures { result.now ≡ spec.half_word half }
 {
     match half {
@@ -67,7 +67,7 @@ fn half_word(half: Half) -> &'static [u8]
     }
 }
 
-fn kind_word(kind: LogicKind) -> &'static [u8]
+pub(crate) fn kind_word(kind: LogicKind) -> &'static [u8]
     ensures { result.now ≡ spec.kind_word kind }
 {
     match kind {

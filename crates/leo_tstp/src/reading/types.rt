@@ -1,0 +1,46 @@
+//! Types as they are read.
+
+use crate::reading::patterns::{Pattern, fits, parts};
+use crate::reading::source::Reader;
+use crate::reading::trees::TypeNode;
+use crate::refusal::Stop;
+
+impl Reader<'_> {
+    /// A type that fits.
+    #[cycle(typing)]
+    pub(crate) fn read_type(&mut self, asked: Pattern<'_>, room: u32) -> Result<usize, Stop> {
+        let Some(room) = room.checked_sub(1) else {
+            return Err(Stop::Memory);
+        };
+        if self.sees(b"(") {
+            self.arrow(asked, room)
+        } else {
+            self.base_type(asked)
+        }
+    }
+
+    fn base_type(&mut self, asked: Pattern<'_>) -> Result<usize, Stop> {
+        let Some(ty) = self.lexicon.types.get(self.word()).copied() else {
+            return Err(Stop::Refused);
+        };
+        if !fits(&self.types, &asked, ty) {
+            return Err(Stop::Refused);
+        }
+        self.pass();
+        Ok(ty)
+    }
+
+    #[cycle(typing)]
+    fn arrow(&mut self, asked: Pattern<'_>, room: u32) -> Result<usize, Stop> {
+        let Some((from, to)) = parts(&self.types, asked) else {
+            return Err(Stop::Refused);
+        };
+        self.pass();
+        let a = self.read_type(from, room)?;
+        self.take(b">")?;
+        let b = self.read_type(to, room)?;
+        self.take(b")")?;
+        let ty = self.types.place(TypeNode::Arrow(a, b))?;
+        Ok(ty)
+    }
+}
