@@ -4,5 +4,6 @@ pub mod Shapes
 pub mod Formed
 pub mod Falsity
 pub mod Answering
+pub mod Judging
 pub mod Ending
 pub mod Denying

@@ -7,3 +7,5 @@ pub mod Texts
 pub mod Answers
 pub mod Checks
 pub mod Laws
+pub mod CheckTexts
+pub mod Checking

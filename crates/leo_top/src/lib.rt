@@ -3,6 +3,9 @@
 
 mod alone;
 mod answer;
+mod check;
+mod check_answer;
+mod check_status;
 mod first_form;
 mod hypothesis;
 pub mod laws;
@@ -10,6 +13,7 @@ mod lines;
 mod names;
 mod negations;
 mod pairs;
+mod program;
 mod refusal;
 mod status;
 #[cfg(test)]
@@ -18,4 +22,7 @@ mod texts;
 mod writing;
 
 pub use alone::{Alone, leo3_alone};
+pub use check::{CheckEnding, check_proof};
+pub use check_status::CheckStatus;
+pub use program::command_words;
 pub use status::Status;

@@ -41,9 +41,9 @@ pub fn add_note(
     add_line(text, &[b"% leo3: ", &file, b": ", words])
 }
 
-// Appends a line on a byte of the file.
+/// Appends a line on a byte of the file.
 #[tactic(auto, unfolding(crate::specs::Texts::byte_line))]
-fn add_byte_note(
+pub fn add_byte_note(
     alloc: Global,
     text: &mut Vec<u8>,
     file: &[u8],

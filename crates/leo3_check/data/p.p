@@ -1,0 +1,3 @@
+thf(p_type,type,p: $o).
+thf(a,axiom,p).
+thf(c,conjecture,p).
