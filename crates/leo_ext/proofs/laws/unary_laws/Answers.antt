@@ -1,0 +1,5 @@
+use Rattle.leo_ext.proofs.Accepting.{accepted}
+use Rattle.leo_ext.proofs.laws.unary_laws.Goals as goal
+
+pub returns : goal.returns
+returns c = accepted

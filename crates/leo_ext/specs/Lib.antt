@@ -1,0 +1,12 @@
+pub mod Binding
+pub mod Members
+pub mod Unary
+pub mod Laws
+pub mod Listing
+pub mod Cases
+pub mod Truths
+pub mod Heads
+pub mod Terms
+pub mod Pairs
+pub mod Chosen
+pub mod Functions
