@@ -1,0 +1,16 @@
+//! Reads derivation texts over small problems, and prints what was read.
+#![tactic(auto)]
+
+mod rows;
+mod telling;
+
+use crate::rows::ROWS;
+use crate::telling::show;
+use std::process::ExitCode;
+
+fn main(rt: HostRuntime) -> ExitCode {
+    for row in ROWS {
+        show(&rt, row);
+    }
+    ExitCode::SUCCESS
+}
