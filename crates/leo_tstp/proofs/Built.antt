@@ -1,5 +1,5 @@
 -- Terms that were built, in a bank that grows.
-use Rattle.std.proofs.Common.{ℕ, zero, suc, ◌≡◌, ◌∙◌, ◌+◌, ◌<◌, List, [], ◌∷◌, ◌++◌, length, map, slice_get, slice_index_or, Option, Some, refl, sym, ap, arith, add-one}
+use Rattle.std.proofs.Common.{ℕ, zero, suc, ◌≡◌, ◌∙◌, ◌+◌, ◌<◌, List, [], ◌∷◌, ◌++◌, length, map, slice_get, slice_index_or, Some, refl, sym, ap, arith, add-one}
 use Rattle.std.proofs.lemmas.List.{length-append, map-append}
 use Rattle.std.proofs.lemmas.Option.{slice_get_within, slice_get-map}
 use Rattle.std.specs.Option.{option_map}
@@ -9,7 +9,7 @@ use Rattle.leo_terms.specs.Contents.{Contents, Extends, IsTerm, type_at, tree_at
 use Rattle.leo_terms.proofs.CallerLemmas.{type-kept, tree-kept}
 use Rattle.leo_clause.specs.Typed.{AreTypesOf, IsOver}
 use Rattle.leo_tstp.specs.declared.building.numbers.Numbers.{Numbers}
-use Rattle.leo_tstp.specs.Built.{inside_out, IsTermOver, AreSymbolNumbers, IsNumbering, IsSite, IsBuilt, AreBothBuilt}
+use Rattle.leo_tstp.specs.Built.{inside_out, IsTermOver, AreSymbolNumbers, IsNumbering, IsSite, IsBuilt}
 
 -- ---- lists
 

@@ -1,5 +1,5 @@
 -- Records that were built, in a bank that grows.
-use Rattle.std.proofs.Common.{ℕ, zero, suc, ◌≡◌, ◌∙◌, ◌+◌, ◌<◌, ◌≤◌, Bool, List, [], ◌∷◌, ◌++◌, length, map, slice_get, Option, Some, None, refl, sym, ap, subst, arith}
+use Rattle.std.proofs.Common.{ℕ, zero, suc, ◌≡◌, ◌∙◌, ◌<◌, ◌≤◌, Bool, List, [], ◌∷◌, ◌++◌, length, map, slice_get, Option, Some, None, refl, sym, ap, subst, arith}
 use Rattle.std.specs.Prelude.{IfSome}
 use Rattle.leo_terms.specs.Contents.{Contents, Extends, IsBank, AreTerms, type_at, tree_at, type_number}
 use Rattle.leo_terms.proofs.CallerLemmas.{tree-kept, type_of-term}
@@ -7,13 +7,12 @@ use Rattle.leo_clause.specs.declared.clause.Lit.{Lit}
 use Rattle.leo_clause.specs.declared.clause.Clause.{Clause}
 use Rattle.leo_clause.specs.declared.record.Rule.{Rule}
 use Rattle.leo_clause.specs.declared.record.Rule.TheVariants as record_of
-use Rattle.leo_clause.specs.declared.record.StepRecord.{StepRecord}
 use Rattle.leo_clause.specs.Trees.{ClauseTree, literal_at}
 use Rattle.leo_clause.specs.Typed.{AreTypesOf, AreLiteralsOf, AreTyped, IsTyped, IsTypedIn}
 use Rattle.leo_kernel.proofs.Growing.{clause-grow, clause-kept}
 use Rattle.leo_tstp.specs.Read.{IsPlain}
 use Rattle.leo_tstp.specs.NewSymbols.{introduced_by}
-use Rattle.leo_tstp.specs.Built.{IsBuilt, AreBothBuilt, IsLiteralBuilt, AreLiteralsBuilt, IsRuleBuilt}
+use Rattle.leo_tstp.specs.Built.{AreBothBuilt, IsLiteralBuilt, AreLiteralsBuilt, IsRuleBuilt}
 use Rattle.leo_tstp.proofs.Built.{over, types-kept}
 
 -- ---- literals and clauses

@@ -1,5 +1,5 @@
 -- Lines that were read, in a bank that grows.
-use Rattle.std.proofs.Common.{ℕ, zero, suc, ◌≡◌, ◌∙◌, ◌+◌, ◌<◌, ◌≤◌, List, [], ◌∷◌, ◌++◌, length, slice_get, Some, refl, sym, ap, subst, arith, append_assoc, append-nil}
+use Rattle.std.proofs.Common.{ℕ, zero, suc, ◌≡◌, ◌∙◌, ◌+◌, ◌≤◌, List, [], ◌∷◌, ◌++◌, slice_get, Some, sym, ap, subst, arith, append_assoc, append-nil}
 use Rattle.leo_terms.specs.Contents.{Contents, Extends}
 use Rattle.leo_clause.specs.declared.record.Rule.{Rule}
 use Rattle.leo_clause.specs.declared.record.Rule.TheVariants as record_of

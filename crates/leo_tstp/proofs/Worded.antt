@@ -1,5 +1,5 @@
 -- The words of two texts, token by token.
-use Rattle.std.proofs.Common.{ℕ, zero, suc, ◌≡◌, ◌∙◌, ◌+◌, ◌-◌, ◌<◌, ◌≤◌, List, [], ◌∷◌, ◌++◌, length, map, take, drop, slice_index_or, refl, sym, ap, ap₂, subst, arith}
+use Rattle.std.proofs.Common.{ℕ, zero, suc, ◌≡◌, ◌∙◌, ◌+◌, ◌<◌, ◌≤◌, List, [], ◌∷◌, ◌++◌, length, map, take, slice_index_or, refl, sym, ap, ap₂, subst, arith}
 use Rattle.std.proofs.lemmas.List.{take_more, map-append, length-drop}
 use Rattle.leo_lex.specs.declared.token.Token.{Token}
 use Rattle.leo_lex.specs.Cut.{Cut, done, pass, keep, AreTokens}

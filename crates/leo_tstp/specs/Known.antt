@@ -1,5 +1,4 @@
 -- The types and symbols that were met in a bank. For private contracts.
-use Rattle.std.specs.Prelude.{ℕ}
 use Rattle.leo_terms.specs.Contents.{Contents}
 use Rattle.leo_clause.specs.Typed.{AreTypesOf}
 use Rattle.leo_tstp.specs.Built.{AreSymbolNumbers}

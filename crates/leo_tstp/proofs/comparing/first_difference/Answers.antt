@@ -1,5 +1,4 @@
-use Rattle.std.proofs.Common.{ℕ, Bool, true, false, not, ◌≡◌, ◌∙◌, ◌<◌, List, refl, sym, arith, slice_index_or}
-use Rattle.std.specs.Str.{bytes_eq}
+use Rattle.std.proofs.Common.{Bool, true, false, not, ◌≡◌, ◌∙◌, refl, sym, arith}
 use Rattle.std.specs.Cmp.Lexicographic.{same_text}
 use Rattle.leo_tstp.proofs.Worded.{both-more}
 use Rattle.leo_tstp.proofs.comparing.first_difference.Goals as goal

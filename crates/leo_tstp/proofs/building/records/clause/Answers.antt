@@ -1,5 +1,3 @@
-use Rattle.std.proofs.Common.{ap, sym}
-use Rattle.leo_tstp.specs.Built.{AreLiteralsBuilt}
 use Rattle.leo_terms.proofs.CallerLemmas.{extends-itself, extends-trans}
 use Rattle.leo_tstp.proofs.Built.{site-kept}
 use Rattle.leo_tstp.proofs.Recorded.{literals-kept, literals-push, clause-typed}

@@ -1,7 +1,4 @@
-use Rattle.std.proofs.Common.{◌∙◌, sym, ap}
-use Rattle.std.specs.Prelude.{option_to_list}
 use Rattle.leo_terms.proofs.CallerLemmas.{extends-itself}
-use Rattle.leo_tstp.proofs.Recorded.{plain-built, plain-introduces}
 use Rattle.leo_tstp.proofs.building.records.rule_of.Goals as goal
 
 pub returns-in_err-want_none-in-Plain-clause-grows : goal.returns-in_err-want_none-in-Plain-clause-grows

@@ -1,5 +1,3 @@
-use Rattle.std.proofs.Common.{ℕ, List}
-use Rattle.leo_terms.specs.Contents.{AreTerms}
 use Rattle.leo_terms.proofs.CallerLemmas.{extends-itself, extends-trans, are_terms-kept}
 use Rattle.leo_tstp.proofs.Built.{site-kept}
 use Rattle.leo_tstp.proofs.Recorded.{terms-push, no-terms}
