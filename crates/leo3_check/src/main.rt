@@ -2,7 +2,7 @@
 #![tactic(auto)]
 
 use leo_edge::{HostFiles, HostOut};
-use leo_top::{command_words, check_proof};
+use leo_top::{check_proof, command_words};
 use std::io;
 use std::process::ExitCode;
 

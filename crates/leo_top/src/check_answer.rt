@@ -21,10 +21,10 @@ use crate::refusal::{is_of_file, refused_status};
 use crate::status::Status;
 use crate::texts::{add_byte_note, add_cause, add_status};
 use itoa::Buffer;
+use leo_clause::StepRecord;
 use leo_command::Check;
 use leo_derive::{CheckRefusal, check};
 use leo_edge::{Fetched, Files};
-use leo_clause::StepRecord;
 use leo_kernel::Reason;
 use leo_problem::{LoadRefusal, Problem, What, load};
 use leo_tstp::{TstpRefusal, read};
@@ -129,7 +129,11 @@ fn refusal_text(
 }
 
 /// The answer to the lines of a derivation.
-fn judged(alloc: Global, problem: &mut Problem, steps: &[StepRecord]) -> Result<CheckAnswer, AllocError>
+fn judged(
+    alloc: Global,
+    problem: &mut Problem,
+    steps: &[StepRecord],
+) -> Result<CheckAnswer, AllocError>
     requires problem { IsProblem problem.old }
     requires steps { AreStepsOf problem.old.bank steps.now }
     ensures answer { IfOk result (λ a. (p : ProblemValue) (bytes : List ℕ) → checking.IsSameProblem p problem.old → IsDerivationText problem.old bytes steps.now → IsMadeOf (checking.AnswersText p bytes a.status) a.text.items) }
