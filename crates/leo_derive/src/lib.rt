@@ -10,4 +10,5 @@ mod refusal;
 mod symbols;
 
 pub use checking::{check, prune};
+pub use numbering::numbered_record;
 pub use refusal::CheckRefusal;

@@ -111,8 +111,9 @@ fn numbered(alloc: Global, bank: &Bank, numbers: &[u64], rule: &Rule) -> Result<
     Ok(renumbered)
 }
 
-/// The same line, with new numbers for the lines that its rule names.
-pub(crate) fn numbered_record(
+/// The same line, with new numbers for the lines that its rule names: line n gets the number at place n of the list, so
+/// that a line can stand in another journal.
+pub fn numbered_record(
     alloc: Global,
     bank: &Bank,
     numbers: &[u64],

@@ -1,0 +1,9 @@
+mod Lists
+mod Growing
+mod Valid
+mod Numbering
+mod Converting
+mod Introducing
+mod KeptLeaves
+mod Splitting
+mod Taken

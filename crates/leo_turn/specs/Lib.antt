@@ -1,0 +1,4 @@
+pub mod Searches
+pub mod Intakes
+pub mod Growth
+pub mod Changing
