@@ -73,7 +73,7 @@ or-type t true b e f h = ap type_of (equal-trees t (truth_tree true) e)
 or-type t false true e f h = ap type_of (equal-trees t (truth_tree false) f)
 or-type t false false e f h = (let z : ⊥ = cc in absurd z)
 
-formula-type : (l : Literal) → is_formula l ≡ true → type_of l.right ≡ truth_type
+pub formula-type : (l : Literal) → is_formula l ≡ true → type_of l.right ≡ truth_type
 formula-type l h = or-type l.right (same_tree l.right (truth_tree true)) (same_tree l.right (truth_tree false)) refl refl h
 
 -- lists
@@ -106,7 +106,7 @@ chooses-precede : (known : ℕ) (before : List Choice) (t : Tree) (after : List 
 chooses-precede known before t after n k (earliest m j e f g) i x h = h
 chooses-precede known before t after n k (added j e f g h) i x q = slice_get-append before (k ∷ []) i x q
 
-functions-precede : (known p : ℕ) (c : ClauseTree) (i : ℕ) (before : List Choice) (ls : List Literal) (later : List Choice) (ms : List Member) → FuncExts known p c i before ls later ms → Precedes before later
+pub functions-precede : (known p : ℕ) (c : ClauseTree) (i : ℕ) (before : List Choice) (ls : List Literal) (later : List Choice) (ms : List Member) → FuncExts known p c i before ls later ms → Precedes before later
 functions-precede known p c i before [] later ms (done j chs) n x h = h
 functions-precede known p c i before (l ∷ ls) later ms (other j chs last k ks members f h) n x e = functions-precede known p c (suc i) before ls later ms h n x e
 functions-precede known p c i before (l ∷ ls) later (m ∷ ms) (equal_functions j chs last k ks members f g h) n x e = functions-precede known p c (suc i) before ls later ms h n x e

@@ -111,6 +111,17 @@ module _ (give : ClauseTree → ℕ → Literal → List Member) (a : Contents) 
       let same : give (clause_at b k) i (literal_at b l) ≡ give (clause_at a k) i (literal_at a l) = rw (clause-kept e k of, literal-same e of i l lt is) refl in
       record { adds = adds-as old new _ _ (adds-both old middle new _ _ h.adds (adds-as middle new _ _ g same)) (sym (each-next (literal_at a) (give (clause_at a k)) k.lits i l lt is)) }
 
+  -- the same where the literal is found by its number
+  pub first-next-at : IsClauseOf a k → (b c : Contents) (i : ℕ) (old middle new : List Due) → AddsFirst b i old middle → i < length k.lits → ((l : Lit) → slice_get k.lits i ≡ Some l → Adds b c middle new (give (clause_at b k) i (literal_at b l))) → AddsFirst c (i + 1) old new
+  first-next-at of b c i old middle new h lt g =
+      let l = item k.lits i lt in
+      first-next of b c i l.0 old middle new h lt l.2 (g l.0 l.1)
+    where
+      item : (ls : List Lit) (j : ℕ) → j < length ls → (x : Lit) × (slice_get ls j ≡ Some x) × (x ≡ slice_index_or ls j x)
+      item [] j n = absurd (omega arith)
+      item (x ∷ ls) zero n = (x, refl, refl)
+      item (x ∷ ls) (suc j) n = item ls j (omega arith)
+
   pub first-all : (b : Contents) (i : ℕ) (old new : List Due) → length k.lits ≤ i → AddsFirst b i old new → Adds a b old new (each_literal (give (clause_at a k)) 0 (clause_at a k).literals)
   first-all b i old new l h = adds-as old new _ _ h.adds (rw (take-all k.lits i l) refl)
 

@@ -38,7 +38,7 @@ module _ (variables : List SimpleType) where
   function-over : (n : ℕ) (types : List SimpleType) (b : SimpleType) → slice_get variables n ≡ Some (arrows types b) → IsOver variables (length types) (fresh_function n types b)
   function-over n types b e = indices-over types (variable n (arrows types b)) (length types) (omega arith) e
 
-function-typed : (n : ℕ) (types : List SimpleType) (b : SimpleType) → type_of (fresh_function n types b) ≡ b
+pub function-typed : (n : ℕ) (types : List SimpleType) (b : SimpleType) → type_of (fresh_function n types b) ≡ b
 function-typed n types b = indices-type types (variable n (arrows types b)) b refl
 
 -- a truth value, over the variables and the fresh ones, below lambdas for these types

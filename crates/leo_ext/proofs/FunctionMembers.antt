@@ -111,11 +111,11 @@ different-clause {a} {d} e before after k q at n l p of picked same vars lits = 
 }
 
 -- lists of such clauses
-extended-grow : {c d : Contents} → Extends c d → (es : List Extended) → AreExtendedOf c es → AreExtendedOf d es
+pub extended-grow : {c d : Contents} → Extends c d → (es : List Extended) → AreExtendedOf c es → AreExtendedOf d es
 extended-grow e [] h = tt
 extended-grow e (x ∷ es) h = (clause-grow e x.clause h.0, extended-grow e es h.1)
 
-extended-kept : {c d : Contents} → Extends c d → (p : ℕ) (es : List Extended) → AreExtendedOf c es → map (extended_member d p) es ≡ map (extended_member c p) es
+pub extended-kept : {c d : Contents} → Extends c d → (p : ℕ) (es : List Extended) → AreExtendedOf c es → map (extended_member d p) es ≡ map (extended_member c p) es
 extended-kept e p [] h = refl
 extended-kept e p (x ∷ es) h = rw (clause-kept e x.clause h.0, extended-kept e p es h.1) refl
 

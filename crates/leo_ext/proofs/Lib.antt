@@ -17,3 +17,8 @@ mod PlaceTerms
 mod ChoiceMembers
 mod Differences
 mod FunctionMembers
+mod BoundTerms
+mod BoundMaking
+mod BoundMembers
+mod Pairing
+mod Joined

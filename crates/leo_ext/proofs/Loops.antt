@@ -46,3 +46,6 @@ flat_map-next read f xs i x l e = ap (flat_map f) (ap (map read) (take-more xs i
 
 pub map-next : {X Y : Type 0} (f : X → Y) (xs : List X) (i : ℕ) (x : X) → i < length xs → x ≡ slice_index_or xs i x → map f (take (i + 1) xs) ≡ map f (take i xs) ++ f x ∷ []
 map-next f xs i x l e = ap (map f) (take-more xs i x l e) ∙ map-append f (take i xs) (x ∷ [])
+
+pub mapped-next : {X Y Z : Type 0} (g : X → Y) (f : Y → Z) (xs : List X) (i : ℕ) (x : X) → i < length xs → x ≡ slice_index_or xs i x → map f (map g (take (i + 1) xs)) ≡ map f (map g (take i xs)) ++ f (g x) ∷ []
+mapped-next g f xs i x l e = ap (map f) (map-next g xs i x l e) ∙ map-append f (map g (take i xs)) (g x ∷ [])

@@ -1,12 +1,13 @@
 -- What is so of the members of a clause.
-use Rattle.std.specs.Prelude.{ℕ, ◌≡◌, List, [], ◌∷◌, slice_get, Some}
+use Rattle.std.specs.Prelude.{ℕ, ◌≡◌, ◌<◌, List, [], ◌∷◌, length, slice_get, Some}
 use Rattle.leo_terms.specs.Typing.{IsWellTyped}
 use Rattle.leo_clause.specs.Choices.{Choice}
 use Rattle.leo_clause.specs.Trees.{Literal, ClauseTree}
 use Rattle.leo_clause.specs.Typed.{IsTyped}
 use Rattle.leo_kernel.specs.Acceptance.{AreAcceptedAfter}
 use Rattle.leo_kernel.specs.Steps.{StepRule}
-use Rattle.leo_clausify.specs.Leaves.{first_lines}
+use Rattle.leo_clausify.specs.Leaves.{first_lines, last_clause}
+use Rattle.leo_conclude.specs.Leaving.{AreConstraints, AreNumbersOf}
 use Rattle.leo_ext.specs.Members.{Member}
 use Rattle.leo_ext.specs.Unary.{AreUnary}
 
@@ -20,3 +21,12 @@ AreWellTyped (l ∷ ls) = IsWellTyped l.left × IsWellTyped l.right × AreWellTy
 abbrev pub UnaryMembersAreAccepted : Type 0
 UnaryMembersAreAccepted = (known : ℕ) (choices later : List Choice) (c : ClauseTree) (rule : StepRule) (members : List Member) → IsTyped c → AreWellTyped c.literals → AreUnary known choices c later members
     → (n : ℕ) (m : Member) → slice_get members n ≡ Some m → AreAcceptedAfter (first_lines later c rule) m.lines
+
+-- each member has at least one line
+abbrev pub UnaryMembersHaveLines : Type 0
+UnaryMembersHaveLines = (known : ℕ) (choices : List Choice) (c : ClauseTree) (later : List Choice) (members : List Member) → AreUnary known choices c later members → (n : ℕ) (m : Member) → slice_get members n ≡ Some m → 0 < length m.lines
+
+-- the literals of its last line's clause that are to be solved are inequations, and their numbers are numbers of literals
+abbrev pub UnaryPairsAreNegative : Type 0
+UnaryPairsAreNegative = (known : ℕ) (choices : List Choice) (c : ClauseTree) (later : List Choice) (members : List Member) → AreUnary known choices c later members → (n : ℕ) (m : Member) → slice_get members n ≡ Some m
+    → AreConstraints (last_clause c m.lines).literals m.pairs × AreNumbersOf (last_clause c m.lines).literals m.pairs

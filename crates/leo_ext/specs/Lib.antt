@@ -10,3 +10,5 @@ pub mod Terms
 pub mod Pairs
 pub mod Chosen
 pub mod Functions
+pub mod Bounds
+pub mod Joining

@@ -214,7 +214,11 @@ pub(crate) fn place_for(bank: &mut Bank, choices: &mut Abbr, t: TermId) -> Resul
 }
 
 /// A variable. Where its number does not fit there is no memory for it.
-fn variable_numbered(bank: &mut Bank, number: u64, ty: TyId) -> Result<TermId, AllocError>
+pub(crate) fn variable_numbered(
+    bank: &mut Bank,
+    number: u64,
+    ty: TyId,
+) -> Result<TermId, AllocError>
     requires { ty < length bank.old.types }
     ensures made { IfOk result (λ t. IsTerm bank.new t ty (variable number (type_at bank.old ty))) }
     ensures grows { Extends bank.old bank.new }

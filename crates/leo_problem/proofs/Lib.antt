@@ -2,3 +2,4 @@ pub mod Assumed
 pub mod Pieces
 pub mod OneTheory
 pub mod OneGathering
+pub mod ShortTexts

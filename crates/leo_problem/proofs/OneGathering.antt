@@ -1,6 +1,7 @@
--- Told files give one list of statements, or one refusal, at most.
-use Rattle.std.proofs.Common.{ℕ, suc, ◌≡◌, ◌<◌, ◌≤◌, ◌⊎◌, inl, inr, List, [], ◌∷◌, length, slice_get, Option, Some, IfSome, refl, ap, sym, ◌∙◌, subst, arith}
+-- Told files, and generated texts, give one list of statements, or one refusal, at most.
+use Rattle.std.proofs.Common.{ℕ, suc, ◌≡◌, ◌<◌, ◌≤◌, ◌⊎◌, inl, inr, List, [], ◌∷◌, ◌++◌, map, length, slice_get, Option, Some, IfSome, codes, decimal, refl, ap, sym, ◌∙◌, subst, arith}
 use Rattle.std.proofs.lemmas.Bool.{false≢true}
+use Rattle.std.proofs.lemmas.Fmt.{decimal_injective}
 use Rattle.leo_lex.specs.Cut.{AreTokens, StopsAt}
 use Rattle.leo_lex.specs.declared.token.Token.{Token}
 use Rattle.leo_syntax.specs.declared.tree.Statement.{Statement}
@@ -15,12 +16,13 @@ use Rattle.leo_problem.specs.declared.refusal.LoadRefusal.TheVariants.{Refused}
 use Rattle.leo_problem.specs.declared.refusal.What.TheVariants as what
 use Rattle.leo_problem.specs.Limits.{room_for}
 use Rattle.leo_problem.specs.Texts.{AreStatements, RefusesText, no_token, no_file, text_refusal}
-use Rattle.leo_problem.specs.Gathering.{Gathers, unread, too_large, no_statements, statements, GathersStatements, no_more, kept, too_many, refused_include, included, Outcome, gathered, refused, preceded, selected, joined, with_file, IsContent}
+use Rattle.leo_problem.specs.Generating.{IsGenerator, generated_text}
+use Rattle.leo_problem.specs.Gathering.{Gathers, unread, too_large, no_statements, statements, GathersStatements, no_more, kept, too_many, refused_include, included, Outcome, gathered, refused, preceded, selected, joined, nothing_read, with_file, IsContent, kept_in, GathersProblem, of_file, refused_text, of_text}
 use Rattle.leo_problem.specs.Theories.{Answer, Says}
 use Rattle.leo_problem.specs.Theories as theories
 use Rattle.leo_problem.specs.Loading.{ProblemOf, not_gathered}
 use Rattle.leo_problem.specs.Loading as loading
-use Rattle.leo_problem.specs.Laws.{IsAsked, problem_file, include_in, IsReadFault, unreadable, OneProblem}
+use Rattle.leo_problem.specs.Laws.{IsAsked, problem_file, include_in, AreTold, IsReadFault, unreadable, OneProblem}
 use Rattle.leo_problem.proofs.OneTheory.{one-saying}
 
 -- the outcome is that a file could not be read
@@ -61,6 +63,18 @@ refusal-last (inr h) = absurd cc
 no-refusal : {r : LoadRefusal} {ks : List Kept} {c : Counts} → IsSame (gathered ks c) (refused r) → ⊥
 no-refusal (inl h) = h
 no-refusal (inr h) = cc
+
+-- a name stands for one generated text at most
+one-number : {name : List ℕ} {n m : ℕ} → IsGenerator name n → IsGenerator name m → n ≡ m
+one-number {name} {n} {m} a b =
+    let high = a.most in
+    let top = b.most in
+    let same : codes "gen:" ++ decimal n ≡ codes "gen:" ++ decimal m = sym a.spelled ∙ b.spelled in
+    decimal_injective n m (omega arith) (omega arith) cc
+
+same-gathered : (name : List ℕ) {n m : ℕ} {list others : List Statement} → n ≡ m → list ≡ others
+    → gathered (map (kept_in name) list) (with_file nothing_read (generated_text n)) ≡ gathered (map (kept_in name) others) (with_file nothing_read (generated_text m))
+same-gathered name {n} {m} {list} {others} p q = rw (p, q) refl
 
 module _ (one_list : (bytes : List ℕ) (some others : List Token) → AreTokens bytes some → AreTokens bytes others → some ≡ others)
     (one_place : (bytes : List ℕ) (m n : ℕ) → StopsAt bytes m → StopsAt bytes n → m ≡ n)
@@ -178,6 +192,26 @@ module _ (one_list : (bytes : List ℕ) (some others : List Token) → AreTokens
           past-include names (one-file (a 0 _ _ _ _ refl) h l (λ x. x))
           (λ w. one-rest (behind (statement.Include byte name name_byte names) list a) k w (faultless-behind (selected names ks) u n)) m
 
+  refused-text : (name : List ℕ) {n m : ℕ} {r u : LoadRefusal} → m ≡ n → RefusesText name (generated_text n) r → RefusesText name (generated_text m) u → r ≡ u
+  refused-text name {n} {m} {r} {u} e a b = let P : ℕ → Type 0 = λ k. RefusesText name (generated_text k) u in one-refusal a (subst P e b)
+
+  not-refused-text : (name : List ℕ) {n m : ℕ} {list : List Statement} {r : LoadRefusal} → m ≡ n → AreStatements (generated_text n) list → RefusesText name (generated_text m) r → ⊥
+  not-refused-text name {n} {m} {list} {r} e a b = let P : ℕ → Type 0 = λ k. RefusesText name (generated_text k) r in not-refused a (subst P e b)
+
+  one-text : {n m : ℕ} {list others : List Statement} → m ≡ n → AreStatements (generated_text n) list → AreStatements (generated_text m) others → list ≡ others
+  one-text {n} {m} {list} {others} e a b = let P : ℕ → Type 0 = λ k. AreStatements (generated_text k) others in one-reading a (subst P e b)
+
+  one-whole : {told : List ℕ → Option (List ℕ)} {name : List ℕ} {root : Option (List ℕ)} {o u : Outcome} → AreTold told name root → GathersProblem told name root o → GathersProblem told name root u → ¬ IsFaulty u → IsSame o u
+  one-whole known (of_file i g) (of_file j h) n = one-file known (problem_file i) g h n
+  one-whole known (of_file i g) (refused_text {n = k} a r) n = absurd (i k a)
+  one-whole known (of_file i g) (of_text {n = k} a s) n = absurd (i k a)
+  one-whole known (refused_text {n = k} a r) (of_file i g) n = absurd (i k a)
+  one-whole {name = name} known (refused_text a r) (refused_text b s) n = inr (ap refused (refused-text name (one-number b a) r s))
+  one-whole {name = name} known (refused_text a r) (of_text b s) n = absurd (not-refused-text name (one-number a b) s r)
+  one-whole known (of_text {n = k} a s) (of_file i g) n = absurd (i k a)
+  one-whole {name = name} known (of_text a s) (refused_text b r) n = absurd (not-refused-text name (one-number b a) s r)
+  one-whole {name = name} known (of_text a s) (of_text b t) n = inr (same-gathered name (one-number a b) (one-text (one-number b a) s t))
+
   refused-same : {r u : LoadRefusal} → IsSame (refused r) (refused u) → IsReadFault r ⊎ (theories.refused r ≡ theories.refused u)
   refused-same (inl h) = inl h
   refused-same (inr h) = inr cc
@@ -191,7 +225,7 @@ module _ (one_list : (bytes : List ℕ) (some others : List Token) → AreTokens
   says-same {ks} {ls} {one = one} (inr h) s t = let P : List Kept → Type 0 = λ x. Says x one in one-saying (subst P (same-kept h).0 s) t
 
   pub one-problem : OneProblem
-  one-problem told name root one other known (not_gathered g) (not_gathered h) n = refused-same (one-file known problem_file g h n)
-  one-problem told name root one other known (not_gathered g) (loading.kept h s) n = refused-other (one-file known problem_file g h (λ x. x))
-  one-problem told name root one other known (loading.kept h s) (not_gathered g) n = absurd (no-refusal (one-file known problem_file h g n))
-  one-problem told name root one other known (loading.kept h s) (loading.kept k t) n = inr (says-same (one-file known problem_file h k (λ x. x)) s t)
+  one-problem told name root one other known (not_gathered g) (not_gathered h) n = refused-same (one-whole known g h n)
+  one-problem told name root one other known (not_gathered g) (loading.kept h s) n = refused-other (one-whole known g h (λ x. x))
+  one-problem told name root one other known (loading.kept h s) (not_gathered g) n = absurd (no-refusal (one-whole known h g n))
+  one-problem told name root one other known (loading.kept h s) (loading.kept k t) n = inr (says-same (one-whole known h k (λ x. x)) s t)

@@ -1,5 +1,5 @@
 -- The files of a problem and the statements that are kept of them: the statements of an include stand at its place.
-use Rattle.std.specs.Prelude.{◌≡◌, ℕ, ◌+◌, ◌<◌, ◌≤◌, Bool, true, false, List, [], ◌∷◌, ◌++◌, length, filter, ◌==◌, Option, Some, None, IfSome, ◌⊎◌, if◌then◌else◌}
+use Rattle.std.specs.Prelude.{◌≡◌, ℕ, ◌+◌, ◌<◌, ◌≤◌, Bool, true, false, List, [], ◌∷◌, ◌++◌, length, map, filter, ◌==◌, Option, Some, None, IfSome, ◌⊎◌, if◌then◌else◌}
 use Rattle.std.specs.List.{list_any}
 use Rattle.std.specs.Str.{bytes_eq}
 use Rattle.leo_syntax.specs.declared.tree.Statement.{Statement}
@@ -11,6 +11,7 @@ use Rattle.leo_problem.specs.declared.refusal.LoadRefusal.TheVariants.{Refused}
 use Rattle.leo_problem.specs.declared.refusal.What.TheVariants as what
 use Rattle.leo_problem.specs.Limits.{room_for}
 use Rattle.leo_problem.specs.Texts.{AreStatements, RefusesText}
+use Rattle.leo_problem.specs.Generating.{IsGenerator, IsFileName, generated_text}
 
 -- ---- names of files
 
@@ -115,3 +116,16 @@ mutual
         → Gathers told folder (level + 1) (joined folder name) before (gathered ks between)
         → GathersStatements told folder level file list between outcome
         → GathersStatements told folder level file (statement.Include byte name name_byte names ∷ list) before (preceded (selected names ks) outcome)
+
+-- ---- the statements of a problem
+
+-- the statement as it is kept of the file of that name
+abbrev pub kept_in : List ℕ → Statement → Kept
+kept_in file s = record { file = file; statement = s }
+
+-- what a name gives: its file, with the files that are included, or the generated text for which it stands. Of such a text each statement is kept, and no file is asked for.
+pub data GathersProblem (told : List ℕ → Option (List ℕ)) (name : List ℕ) (root : Option (List ℕ)) : Outcome → Type 0 where
+  of_file : {outcome : Outcome} → IsFileName name → Gathers told (folder_by name root) 0 name nothing_read outcome → GathersProblem told name root outcome
+  refused_text : {n : ℕ} {r : LoadRefusal} → IsGenerator name n → RefusesText name (generated_text n) r → GathersProblem told name root (refused r)
+  of_text : {n : ℕ} {list : List Statement} → IsGenerator name n → AreStatements (generated_text n) list
+      → GathersProblem told name root (gathered (map (kept_in name) list) (with_file nothing_read (generated_text n)))

@@ -6,18 +6,19 @@ use Rattle.leo_problem.specs.declared.refusal.LoadRefusal.{LoadRefusal}
 use Rattle.leo_problem.specs.declared.refusal.LoadRefusal.TheVariants.{Refused}
 use Rattle.leo_problem.specs.declared.refusal.What.TheVariants as what
 use Rattle.leo_problem.specs.Texts.{AreStatements}
+use Rattle.leo_problem.specs.Generating.{IsFileName}
 use Rattle.leo_problem.specs.Gathering.{folder_by, joined}
 use Rattle.leo_problem.specs.Theories.{Answer, says, refused}
 use Rattle.leo_problem.specs.Loading.{ProblemOf}
 
--- a file that may be asked for: the problem's, or one that an include names in such a file, of which the content is told
+-- a file that may be asked for: the problem's, unless its name stands for a generated text, or one that an include names in such a file, of which the content is told
 pub data IsAsked (told : List ℕ → Option (List ℕ)) (folder name : List ℕ) : List ℕ → Type 0 where
-  problem_file : IsAsked told folder name name
+  problem_file : IsFileName name → IsAsked told folder name name
   include_in : {file text include : List ℕ} {list : List Statement} {byte include_byte : ℕ} {names : Option (List (List ℕ))} (place : ℕ)
       → IsAsked told folder name file → told file ≡ Some text → AreStatements text list → slice_get list place ≡ Some (statement.Include byte include include_byte names)
       → IsAsked told folder name (joined folder include)
 
--- the content of each file that may be asked for is told
+-- the content of each file that may be asked for is told; where the name stands for a generated text none is asked for
 abbrev pub AreTold : (List ℕ → Option (List ℕ)) → List ℕ → Option (List ℕ) → Type 0
 AreTold told name root = (file : List ℕ) → IsAsked told (folder_by name root) name file → (text : List ℕ) × (told file ≡ Some text)
 

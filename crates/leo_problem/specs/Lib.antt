@@ -1,6 +1,7 @@
 pub mod Limits
 pub mod Roles
 pub mod Texts
+pub mod Generating
 pub mod Gathering
 pub mod Theories
 pub mod Loading

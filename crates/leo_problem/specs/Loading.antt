@@ -1,4 +1,4 @@
--- What a problem's files say, by their contents as they are told, the file's name and the root of includes.
+-- What a problem's files say, by their contents as they are told, the file's name and the root of includes; or what the generated text says for which the name stands.
 use Rattle.std.specs.Prelude.{◌≡◌, ℕ, List, [], ◌∷◌, map, Option, Some}
 use Rattle.leo_edge.specs.Outside.{HasRisen}
 use Rattle.leo_terms.specs.Contents.{Contents}
@@ -14,14 +14,14 @@ use Rattle.leo_problem.specs.declared.refusal.LoadRefusal.{LoadRefusal}
 use Rattle.leo_problem.specs.declared.refusal.LoadRefusal.TheVariants.{Refused, Memory}
 use Rattle.leo_problem.specs.declared.refusal.What.{What}
 use Rattle.leo_problem.specs.declared.refusal.What.TheVariants as what
-use Rattle.leo_problem.specs.Gathering.{Gathers, gathered, folder_by, nothing_read}
+use Rattle.leo_problem.specs.Gathering.{GathersProblem, gathered}
 use Rattle.leo_problem.specs.Gathering as gathering
 use Rattle.leo_problem.specs.Theories.{Hypothesis, Theory, Answer, Says, refused}
 
--- what the files of a problem say, or the first refusal
+-- what the files or the generated text of a problem say, or the first refusal
 pub data ProblemOf (told : List ℕ → Option (List ℕ)) (name : List ℕ) (root : Option (List ℕ)) : Answer → Type 0 where
-  not_gathered : {r : LoadRefusal} → Gathers told (folder_by name root) 0 name nothing_read (gathering.refused r) → ProblemOf told name root (refused r)
-  kept : {ks : List Kept} {counts : Counts} {answer : Answer} → Gathers told (folder_by name root) 0 name nothing_read (gathered ks counts) → Says ks answer → ProblemOf told name root answer
+  not_gathered : {r : LoadRefusal} → GathersProblem told name root (gathering.refused r) → ProblemOf told name root (refused r)
+  kept : {ks : List Kept} {counts : Counts} {answer : Answer} → GathersProblem told name root (gathered ks counts) → Says ks answer → ProblemOf told name root answer
 
 -- ---- the problem as it stands in a bank
 

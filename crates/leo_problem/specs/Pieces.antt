@@ -1,5 +1,5 @@
 -- What single steps of gathering give. For private contracts.
-use Rattle.std.specs.Prelude.{◌≡◌, ℕ, ◌+◌, List, ◌∷◌, ◌++◌, drop, Option}
+use Rattle.std.specs.Prelude.{◌≡◌, ℕ, ◌+◌, List, ◌∷◌, ◌++◌, map, drop, Option}
 use Rattle.leo_syntax.specs.declared.tree.Statement.{Statement}
 use Rattle.leo_problem.specs.declared.gathered.Counts.{Counts}
 use Rattle.leo_problem.specs.declared.gathered.Kept.{Kept}
@@ -8,7 +8,9 @@ use Rattle.leo_problem.specs.Loading.{IsFault}
 use Rattle.leo_problem.specs.Places.{Place}
 use Rattle.leo_problem.specs.declared.refusal.LoadRefusal.TheVariants.{Refused}
 use Rattle.leo_problem.specs.declared.refusal.What.TheVariants as what
-use Rattle.leo_problem.specs.Gathering.{Gathers, GathersStatements, Outcome, refused, preceded, joined, IsFull, HasRoom}
+use Rattle.leo_problem.specs.Gathering.{Gathers, GathersStatements, Outcome, refused, preceded, joined, IsFull, HasRoom, kept_in}
+use Rattle.leo_problem.specs.Generating.{generated_text}
+use Rattle.leo_problem.specs.Texts.{AreStatements}
 
 -- the file is refused before its statements are known
 pub record IsRefusedFile (told : List ℕ → Option (List ℕ)) (file : List ℕ) (before : Counts) (r : LoadRefusal) : Type 0 where
@@ -43,3 +45,9 @@ pub record Includes (told : List ℕ → Option (List ℕ)) (p : Place) (name : 
 pub data IsRefusedInclude (told : List ℕ → Option (List ℕ)) (p : Place) (name : List ℕ) (name_byte : ℕ) (before : Counts) : LoadRefusal → Type 0 where
   full : IsFull p.level before → IsRefusedInclude told p name name_byte before (Refused p.file name_byte what.Includes)
   in_file : {r : LoadRefusal} → Includes told p name before (refused r) → IsRefusedInclude told p name name_byte before r
+
+-- these are the statements of the generated text of that number, kept by the name that stands for it
+pub record AreOfText (name : List ℕ) (n : ℕ) (ks : List Kept) : Type 0 where
+  pub list : List Statement
+  pub are_statements : AreStatements (generated_text n) list
+  pub all : ks ≡ map (kept_in name) list

@@ -1,8 +1,8 @@
 //! The files of a problem in reading order, and the statements that are kept of them.
 
-ghost use Rattle.std.specs.Prelude.{◌≡◌, ◌≢◌, ◌<◌, ◌≤◌, ◌++◌, ◌∷◌, [], false, ℕ, List, OnOk, IfOk, IfErr};
+ghost use Rattle.std.specs.Prelude.{◌≡◌, ◌≢◌, ◌<◌, ◌≤◌, ◌++◌, ◌∷◌, [], false, map, ℕ, List, OnOk, IfOk, IfErr};
 ghost use Rattle.leo_problem.specs.declared.refusal.LoadRefusal.TheVariants.{Memory};
-ghost use Rattle.leo_problem.specs.Gathering.{Gathers, GathersStatements, gathered, refused, is_include, joined};
+ghost use Rattle.leo_problem.specs.Gathering.{Gathers, GathersStatements, gathered, refused, is_include, joined, kept_in};
 ghost use Rattle.leo_problem.specs.Gathering as gathering;
 ghost use Rattle.leo_problem.specs.Loading.{IsFault};
 ghost use Rattle.leo_problem.specs.Pieces.{KeepsMore, IsRefusedStatement, Includes, IsRefusedInclude};
@@ -41,6 +41,7 @@ impl<'a> Model for Place<'a> {
     ghost view = { λ p. record { folder = p.folder.now; level = p.level; file = p.file.now } };
 }
 
+/// Appends a statement of the file of that name.
 fn keep(
     alloc: Global,
     kept: &mut Vec<Kept>,
@@ -52,6 +53,17 @@ fn keep(
     let file = Items::from_slice(alloc, file)?;
     kept.push(Kept { file, statement })?;
     Ok(())
+}
+
+/// All statements of the file of that name.
+pub fn keep_all(alloc: Global, file: &[u8], list: Vec<Statement>) -> Result<Vec<Kept>, AllocError>
+    ensures { IfOk result (λ ks. ks.items ≡ map (kept_in file.now) list.items) }
+{
+    let mut kept = Vec::new(alloc);
+    for statement in list {
+        keep(alloc, &mut kept, file, statement)?;
+    }
+    Ok(kept)
 }
 
 /// What a file gives: it is read, and then its includes, in order.

@@ -5,6 +5,7 @@ mod assuming;
 mod folders;
 mod gathered;
 mod gathering;
+mod generating;
 pub mod laws;
 mod loaded;
 mod loading;
@@ -17,6 +18,7 @@ mod theory;
 mod typed;
 
 pub use gathered::{Counts, Kept};
+pub use generating::{generate, generated};
 pub use loaded::{Hyp, Problem};
 pub use loading::load;
 pub use refusal::{LoadRefusal, What};

@@ -1,28 +1,25 @@
 -- The causes of the answers.
-use Rattle.std.proofs.Common.{◌≡◌, ℕ, ◌<◌, ◌≤◌, ◌⊎◌, Bool, true, false, if◌then◌else◌, List, [], ◌∷◌, Option, Some, inl, inr, refl, sym, ap, subst, ◌∙◌, arith}
-use Rattle.std.specs.List.{concat, slice_get}
-use Rattle.leo_q0.specs.Terms.{Term}
+use Rattle.std.proofs.Common.{◌≡◌, ℕ, ◌⊎◌, Bool, true, false, if◌then◌else◌, List, [], ◌∷◌, map, Option, inl, inr, refl, sym, ap, subst, ◌∙◌}
+use Rattle.std.specs.List.{concat}
 use Rattle.leo_q0.specs.Connectives.{false_term}
 use Rattle.leo_q0.specs.Derivations.{Derives}
 use Rattle.leo_problem.specs.declared.refusal.LoadRefusal.TheVariants.{Refused}
 use Rattle.leo_problem.specs.declared.refusal.What.{What}
 use Rattle.leo_problem.specs.declared.refusal.What.TheVariants as what
-use Rattle.leo_problem.specs.Theories.{Answer, refused}
-use Rattle.leo_problem.specs.Loading.{ProblemOf}
+use Rattle.leo_problem.specs.Theories.{Theory, Answer, refused}
+use Rattle.leo_problem.specs.Loading.{ProblemOf, theory_of}
 use Rattle.leo_problem.specs.Laws.{AreTold, IsUnread, unreadable, OneProblem}
+use Rattle.leo_core.specs.declared.event.Cause.{Cause}
+use Rattle.leo_core.specs.declared.settings.Settings.{Settings}
+use Rattle.leo_core.specs.Books.{Pages}
 use Rattle.leo_top.specs.declared.status.Status.{Status}
 use Rattle.leo_top.specs.declared.status.Status.TheVariants.{Theorem, Unsatisfiable, GaveUp, SyntaxError, TypeError, InputError, UsageError, OSError, WriteFault, MemoryOut, Shown}
-use Rattle.leo_top.specs.Problem.{Formula, Hypothesis, formulas}
-use Rattle.leo_top.specs.Pairs.{IsPair, IsFirstPair}
 use Rattle.leo_top.specs.Refusals.{refused_status}
-use Rattle.leo_top.specs.Laws.{OneAnswer}
-use Rattle.leo_top.specs.Texts.{refuted_lines}
 use Rattle.clap.specs.Words.{Kinds, fault_of}
 use Rattle.leo_command.specs.declared.leo3.Search.{Search}
 use Rattle.leo_command.specs.Commands.{IsRequest, leo3_app}
-use Rattle.leo_top.specs.Answers.{status_word, refuted_status, AnswersHypotheses, by_pair, by_no_pair, AnswersProblem, by_form, by_no_form, by_refusal, IsExcused, AnswersFile, by_files, AnswersCall, by_usage, by_request, by_problem, by_memory, by_no_memory, file_of, root_of, IsNoCommand, IsCommand, IsWritten, whole, cut, IsAnswered, IsGiven, IsRefutable, IsUnreadable, IsFault, os_error, write_fault, memory_out}
-use Rattle.leo_top.proofs.Falsity.{derived}
-use Rattle.leo_top.proofs.Formed.{one-form, formed-terms}
+use Rattle.leo_top.specs.Answers.{AnswersRun, by_win, by_limit, by_exhaustion, AnswersProblem, by_run, by_refusal, IsExcused, AnswersFile, by_files, AnswersCall, by_usage, by_request, by_problem, by_memory, by_no_memory, file_of, root_of, settings_of, IsNoCommand, IsCommand, IsWritten, whole, cut, IsAnswered, IsGiven, IsExact, IsRefutable, IsUnreadable, IsFault, os_error, write_fault, memory_out}
+use Rattle.leo_top.proofs.Answering.{same_settings}
 
 -- what a problem can be answered with
 abbrev IsOfProblem : Status → Type 0
@@ -76,13 +73,13 @@ of_status : (c : Bool) → IsOfProblem (status_by c)
 of_status true = tt
 of_status false = tt
 
-of_hypotheses : {file : List ℕ} {c : Bool} {hs : List Hypothesis} {s : Status} {lines : List (List ℕ)} → AnswersHypotheses file c hs s lines → IsOfProblem s
-of_hypotheses {c = c} (by_pair p a d) = of_status c
-of_hypotheses (by_no_pair n) = tt
+of_run : {file : List ℕ} {p : Pages} {cause : Cause} {s : Status} {lines : List (List ℕ)} → AnswersRun file p cause s lines → IsOfProblem s
+of_run {p = p} (by_win about steps is d) = of_status p.problem.conjecture
+of_run (by_limit about is) = tt
+of_run (by_exhaustion about is) = tt
 
-of_problem : {file : List ℕ} {a : Answer} {s : Status} {lines : List (List ℕ)} → AnswersProblem file a s lines → IsOfProblem s
-of_problem (by_form f h) = of_hypotheses h
-of_problem (by_no_form n) = tt
+of_problem : {file : List ℕ} {settings : Settings} {a : Answer} {s : Status} {lines : List (List ℕ)} → AnswersProblem file settings a s lines → IsOfProblem s
+of_problem (by_run r h) = of_run h
 of_problem (by_refusal {what = w}) = of_refusal (refused_status w) (of_what w)
 
 not_of_problem : {s t : Status} → IsOfProblem s → s ≡ t → IsOfProblem t
@@ -92,12 +89,13 @@ os_other : (c : Bool) → status_by c ≡ OSError → ⊥
 os_other true e = cc
 os_other false e = cc
 
-hypotheses_other : {file : List ℕ} {c : Bool} {hs : List Hypothesis} {s : Status} {lines : List (List ℕ)} → AnswersHypotheses file c hs s lines → s ≡ OSError → ⊥
-hypotheses_other {c = c} (by_pair p a d) e = os_other c e
-hypotheses_other (by_no_pair n) e = cc
+run_other : {file : List ℕ} {p : Pages} {cause : Cause} {s : Status} {lines : List (List ℕ)} → AnswersRun file p cause s lines → s ≡ OSError → ⊥
+run_other {p = p} (by_win about steps is d) e = os_other p.problem.conjecture e
+run_other (by_limit about is) e = cc
+run_other (by_exhaustion about is) e = cc
 
-of_file : {file : List ℕ} {root : Option (List ℕ)} {told : List ℕ → Option (List ℕ)} {fb fn : ℕ} {failed : Option (List ℕ)} {t : Status} {lines : List (List ℕ)} →
-    AnswersFile file root told fb fn failed t lines → IsOfProblem t
+of_file : {file : List ℕ} {root : Option (List ℕ)} {settings : Settings} {told : List ℕ → Option (List ℕ)} {fb fn : ℕ} {failed : Option (List ℕ)} {t : Status} {lines : List (List ℕ)} →
+    AnswersFile file root settings told fb fn failed t lines → IsOfProblem t
 of_file (by_files p x a) = of_problem a
 
 module _ {words : List (List ℕ)} {told : List ℕ → Option (List ℕ)} {fb fn : ℕ} {failed : Option (List ℕ)} where
@@ -118,12 +116,11 @@ module _ {words : List (List ℕ)} {told : List ℕ → Option (List ℕ)} {fb f
   unread_row what.Free c p x e = absurd cc
 
   unread_problem : {s : Search} {a : Answer} {t : Status} {lines : List (List ℕ)} → IsCommand words s → ProblemOf told (file_of s) (root_of s) a → IsExcused fb fn failed a →
-      AnswersProblem (file_of s) a t lines → t ≡ OSError → IsUnreadable words told fb fn failed
-  unread_problem c p x (by_form f h) e = absurd (hypotheses_other h e)
-  unread_problem c p x (by_no_form n) e = absurd cc
+      AnswersProblem (file_of s) (settings_of s) a t lines → t ≡ OSError → IsUnreadable words told fb fn failed
+  unread_problem c p x (by_run r h) e = absurd (run_other h e)
   unread_problem c p x (by_refusal {what = w}) e = unread_row w c p x e
 
-  unread_file : {s : Search} {t : Status} {lines : List (List ℕ)} → IsCommand words s → AnswersFile (file_of s) (root_of s) told fb fn failed t lines → t ≡ OSError → IsUnreadable words told fb fn failed
+  unread_file : {s : Search} {t : Status} {lines : List (List ℕ)} → IsCommand words s → AnswersFile (file_of s) (root_of s) (settings_of s) told fb fn failed t lines → t ≡ OSError → IsUnreadable words told fb fn failed
   unread_file c (by_files p x a) e = unread_problem c p x a e
 
   pub usage_cause : {s : Status} {lines : List (List ℕ)} → AnswersCall words told fb fn failed s lines → s ≡ UsageError → IsNoCommand words
@@ -175,28 +172,27 @@ no_refusal : (c : Bool) → IsOfRefusal (status_by c) → ⊥
 no_refusal true h = h
 no_refusal false h = h
 
-refuted_pair : {file : List ℕ} {d : Bool} {hs : List Hypothesis} {s : Status} {lines : List (List ℕ)} (c : Bool) → AnswersHypotheses file d hs s lines → s ≡ status_by c →
-    (a : ℕ) × (b : ℕ) × IsPair (formulas hs) a b × (d ≡ c)
-refuted_pair {d = d} c (by_pair {a = a} {b = b} p s t) e = (a, b, p.pair, one_status d c e)
-refuted_pair c (by_no_pair n) e = absurd (gave_up_other c e)
+-- a run whose answer is that of a refutation was won
+refuted_run : {file : List ℕ} {p : Pages} {cause : Cause} {s : Status} {lines : List (List ℕ)} (c : Bool) → AnswersRun file p cause s lines → s ≡ status_by c →
+    (p.problem.conjecture ≡ c) × Derives (map (λ h. h.formula) (theory_of p.problem).hypotheses) false_term
+refuted_run {p = p} c (by_win about steps is d) e = (one_status p.problem.conjecture c e, d.falsity)
+refuted_run c (by_limit about is) e = absurd (gave_up_other c e)
+refuted_run c (by_exhaustion about is) e = absurd (gave_up_other c e)
 
 module _ {words : List (List ℕ)} {told : List ℕ → Option (List ℕ)} where
-  refuted_problem : {search : Search} {a : Answer} {s : Status} {lines : List (List ℕ)} (c : Bool) → IsCommand words search → ProblemOf told (file_of search) (root_of search) a → AnswersProblem (file_of search) a s lines → s ≡ status_by c →
+  refuted_problem : {search : Search} {a : Answer} {s : Status} {lines : List (List ℕ)} (c : Bool) → IsCommand words search → ProblemOf told (file_of search) (root_of search) a → AnswersProblem (file_of search) (settings_of search) a s lines → s ≡ status_by c →
       IsRefutable words told c
-  refuted_problem {search} c k p (by_form {t = t} {hypotheses = hs} f h) e =
-      let q = refuted_pair c h e in
-      let P : List Term → Type 0 = λ H. Derives H false_term in
+  refuted_problem {search} c k p (by_run {t = t} r h) e =
+      let q = refuted_run c h e in
+      let P : Theory → Type 0 = λ u. Derives (map (λ h. h.formula) u.hypotheses) false_term in
       record {
         search = search;
         theory = t;
-        hypotheses = hs;
         command = k;
         said = p;
-        form = f;
-        conjecture_is = q.3;
-        derived = subst P (sym (formed-terms f.formed)) (derived (formulas hs) q.0 q.1 q.2);
+        conjecture_is = ap (λ (u : Theory). u.conjecture) (sym r.theory_is) ∙ q.0;
+        derived = subst P r.theory_is q.1;
       }
-  refuted_problem c k p (by_no_form n) e = absurd (no_refusal c (let P : Status → Type 0 = IsOfRefusal in subst P e tt))
   refuted_problem c k p (by_refusal {what = w}) e = absurd (no_refusal c (let P : Status → Type 0 = IsOfRefusal in subst P e (of_what w)))
 
 not_of_status : (c : Bool) (s : Status) → (IsOfProblem s → ⊥) → s ≡ status_by c → ⊥
@@ -216,44 +212,6 @@ pub written_status : {text : List ℕ} {before now : Option (List ℕ)} {Failed 
 written_status (whole e) = inl refl
 written_status (cut c f) = inr (refl, f)
 
--- one answer at most
-both_ways : {a b c d : ℕ} → (b < d) ⊎ ((b ≡ d) × (a ≤ c)) → (d < b) ⊎ ((d ≡ b) × (c ≤ a)) → (a ≡ c) × (b ≡ d)
-both_ways (inl x) (inl y) = absurd (omega arith)
-both_ways (inl x) (inr y) = absurd (omega (arith, y.0))
-both_ways (inr x) (inl y) = absurd (omega (arith, x.0))
-both_ways (inr x) (inr y) = (omega (arith, x.1, y.1), x.0)
-
-same_first : {fs : List Formula} {a b c d : ℕ} → IsFirstPair fs a b → IsFirstPair fs c d → (a ≡ c) × (b ≡ d)
-same_first p q = both_ways (p.first _ _ q.pair) (q.first _ _ p.pair)
-
-same_lines : (word file : List ℕ) {a b c d : ℕ} {s t u v : Hypothesis} → a ≡ c → b ≡ d → s ≡ u → t ≡ v →
-    refuted_lines word file a s b t ≡ refuted_lines word file c u d v
-same_lines word file {a} {b} {c} {d} {s} {t} {u} {v} p q r k =
-    ap (λ n. refuted_lines word file n s b t) p ∙
-    (ap (λ n. refuted_lines word file c s n t) q ∙
-    (ap (λ x. refuted_lines word file c x d t) r ∙ ap (λ x. refuted_lines word file c u d x) k))
-
-one_statement : (hs : List Hypothesis) {a c : ℕ} {s u : Hypothesis} → slice_get hs a ≡ Some s → slice_get hs c ≡ Some u → a ≡ c → s ≡ u
-one_statement hs {a} {c} {s} {u} p q e = let k = sym p ∙ (ap (slice_get hs) e ∙ q) in cc
-
-one_of_hypotheses : {file : List ℕ} {c : Bool} {hs : List Hypothesis} {s t : Status} {ls ms : List (List ℕ)} → AnswersHypotheses file c hs s ls → AnswersHypotheses file c hs t ms →
-    (s ≡ t) × (ls ≡ ms)
-one_of_hypotheses {file = file} {c = c} {hs = hs} (by_pair p a d) (by_pair q b e) =
-    let same = same_first p q in
-    (refl, same_lines (status_word (refuted_status c)) file same.0 same.1 (one_statement hs a b same.0) (one_statement hs d e same.1))
-one_of_hypotheses (by_pair {a = a} {b = b} p x y) (by_no_pair n) = absurd (n a b p.pair)
-one_of_hypotheses (by_no_pair n) (by_pair {a = a} {b = b} p x y) = absurd (n a b p.pair)
-one_of_hypotheses (by_no_pair n) (by_no_pair m) = (refl, refl)
-
-pub one_answer : OneAnswer
-one_answer file answer s t ls ms (by_form {t = theory} {hypotheses = hs} f h) (by_form {hypotheses = gs} g k) =
-    let P : List Hypothesis → Type 0 = λ us. AnswersHypotheses file theory.conjecture us s ls in
-    one_of_hypotheses (subst P (one-form f g) h) k
-one_answer file answer s t ls ms (by_form {hypotheses = hs} f h) (by_no_form n) = absurd (n hs f)
-one_answer file answer s t ls ms (by_no_form n) (by_form {hypotheses = hs} f h) = absurd (n hs f)
-one_answer file answer s t ls ms (by_no_form n) (by_no_form m) = (refl, refl)
-one_answer file answer s t ls ms by_refusal by_refusal = (refl, refl)
-
 given_or_cut : {text : List ℕ} {before now : Option (List ℕ)} {Failed : Type 0} {due status : Status} →
     IsWritten text before now Failed due status → IsGiven text before now due status ⊎ IsFault status
 given_or_cut (whole e) = inl (record { taken = e; same = refl })
@@ -264,21 +222,21 @@ fault_stays : {text : List ℕ} {before now : Option (List ℕ)} {Failed : Type 
 fault_stays (whole e) f = f
 fault_stays (cut c e) f = write_fault
 
-unread_status : {file : List ℕ} {a : Answer} {s : Status} {lines : List (List ℕ)} → AnswersProblem file a s lines → IsUnread a → s ≡ OSError
-unread_status (by_form f h) u = absurd u
-unread_status (by_no_form n) u = absurd u
+unread_status : {file : List ℕ} {settings : Settings} {a : Answer} {s : Status} {lines : List (List ℕ)} → AnswersProblem file settings a s lines → IsUnread a → s ≡ OSError
+unread_status (by_run r h) u = absurd u
 unread_status by_refusal unreadable = refl
 
 module _ {before now : Option (List ℕ)} {Failed : Type 0} {status : Status} where
-  same_problem : {file : List ℕ} {a : Answer} {due s : Status} {ls lines : List (List ℕ)} (said : Answer) → OneAnswer → IsWritten (concat ls) before now Failed due status → AnswersProblem file a due ls →
-      AnswersProblem file said s lines → IsUnread a ⊎ (a ≡ said) → IsGiven (concat lines) before now s status ⊎ IsFault status
-  same_problem said one w b known (inl u) = inr (fault_stays w (let P : Status → Type 0 = IsFault in subst P (sym (unread_status b u)) os_error))
-  same_problem {file} {a} {due} {s} {ls} {lines} said one w b known (inr e) =
-      let P : Answer → Type 0 = λ x. AnswersProblem file x due ls in
-      let o = one file said due s ls lines (subst P e b) known in
-      let R : Status → Type 0 = λ t. IsWritten (concat ls) before now Failed t status in
-      let S : List (List ℕ) → Type 0 = λ ms. IsWritten (concat ms) before now Failed s status in
-      given_or_cut (subst S o.1 (subst R o.0 w))
+  -- an answer to what the files say was written whole, unless a fault stood in the way
+  same_problem : {file : List ℕ} {settings : Settings} {a : Answer} {due : Status} {lines : List (List ℕ)} (said : Answer) → IsWritten (concat lines) before now Failed due status → AnswersProblem file settings a due lines →
+      IsUnread a ⊎ (a ≡ said) → IsExact file settings said before now status ⊎ IsFault status
+  same_problem said w b (inl u) = inr (fault_stays w (let P : Status → Type 0 = IsFault in subst P (sym (unread_status b u)) os_error))
+  same_problem {file} {settings} {a} {due} {lines} said w b (inr e) =
+      let P : Answer → Type 0 = λ x. AnswersProblem file settings x due lines in
+      elim (given_or_cut w) [
+        | inl g ↦ inl (record { due = due; lines = lines; answers = subst P e b; given = g })
+        | inr f ↦ inr f
+      ]
 
 cut_fault : {status : Status} → status ≡ WriteFault → IsFault status
 cut_fault e = let P : Status → Type 0 = IsFault in subst P (sym e) write_fault
@@ -300,28 +258,29 @@ same_root : (words : List (List ℕ)) (s u : Search) → IsCommand words s → I
 same_root words s u c d = sym c.asked.found.root ∙ d.asked.found.root
 
 module _ {told : List ℕ → Option (List ℕ)} {fb fn : ℕ} {failed before now : Option (List ℕ)} {Failed : Type 0} {status : Status} where
-  exact_file : {due t : Status} {ls lines : List (List ℕ)} (file other : List ℕ) (root root' : Option (List ℕ)) → OneProblem → OneAnswer → (said : Answer) → other ≡ file → root' ≡ root →
-      AnswersFile other root' told fb fn failed due ls → IsWritten (concat ls) before now Failed due status →
-      AreTold told file root → ProblemOf told file root said → ¬ IsUnread said → AnswersProblem file said t lines → IsGiven (concat lines) before now t status ⊎ IsFault status
-  exact_file {due} {t} {ls} {lines} file other root root' problems answers said same_name same_folder (by_files {answer = got} q x b) w known p u a =
-      let P : List ℕ → Type 0 = λ f. AnswersProblem f got due ls in
+  exact_file : {due : Status} {lines : List (List ℕ)} (file other : List ℕ) (root root' : Option (List ℕ)) (settings settings' : Settings) → OneProblem → (said : Answer) → other ≡ file → root' ≡ root → settings' ≡ settings →
+      AnswersFile other root' settings' told fb fn failed due lines → IsWritten (concat lines) before now Failed due status →
+      AreTold told file root → ProblemOf told file root said → ¬ IsUnread said → IsExact file settings said before now status ⊎ IsFault status
+  exact_file {due} {lines} file other root root' settings settings' problems said same_name same_folder same_choice (by_files {answer = got} q x b) w known p u =
+      let P : List ℕ → Type 0 = λ f. AnswersProblem f settings' got due lines in
+      let O : Settings → Type 0 = λ s. AnswersProblem file s got due lines in
       let Q : List ℕ → Type 0 = λ f. ProblemOf told f root' got in
       let R : Option (List ℕ) → Type 0 = λ r. ProblemOf told file r got in
-      same_problem said answers w (subst P same_name b) a (problems told file root got said known (subst R same_folder (subst Q same_name q)) p u)
+      same_problem said w (subst O same_choice (subst P same_name b)) (problems told file root got said known (subst R same_folder (subst Q same_name q)) p u)
 
 module _ {words : List (List ℕ)} {told : List ℕ → Option (List ℕ)} {fb fn : ℕ} {failed before now : Option (List ℕ)} {Failed : Type 0} {status : Status} where
-  exact_by : {due t : Status} {ls lines : List (List ℕ)} → OneProblem → OneAnswer → (search : Search) (said : Answer) → AnswersCall words told fb fn failed due ls → IsWritten (concat ls) before now Failed due status →
-      IsCommand words search → AreTold told (file_of search) (root_of search) → ProblemOf told (file_of search) (root_of search) said → ¬ IsUnread said → AnswersProblem (file_of search) said t lines → IsGiven (concat lines) before now t status ⊎ IsFault status
-  exact_by problems answers search said (by_usage n) w command known p u a = absurd (n.no_search search command)
-  exact_by problems answers search said (by_request r) w command known p u a = absurd (no_request words search command r)
-  exact_by problems answers search said (by_memory c m) w command known p u a = inr (fault_stays w memory_out)
-  exact_by problems answers search said by_no_memory w command known p u a = inr (fault_stays w memory_out)
-  exact_by problems answers search said (by_problem {s = other} c b) w command known p u a =
-      exact_file (file_of search) (file_of other) (root_of search) (root_of other) problems answers said (same_file words other search c command) (same_root words other search c command) b w known p u a
+  exact_by : {due : Status} {lines : List (List ℕ)} → OneProblem → (search : Search) (said : Answer) → AnswersCall words told fb fn failed due lines → IsWritten (concat lines) before now Failed due status →
+      IsCommand words search → AreTold told (file_of search) (root_of search) → ProblemOf told (file_of search) (root_of search) said → ¬ IsUnread said → IsExact (file_of search) (settings_of search) said before now status ⊎ IsFault status
+  exact_by problems search said (by_usage n) w command known p u = absurd (n.no_search search command)
+  exact_by problems search said (by_request r) w command known p u = absurd (no_request words search command r)
+  exact_by problems search said (by_memory c m) w command known p u = inr (fault_stays w memory_out)
+  exact_by problems search said by_no_memory w command known p u = inr (fault_stays w memory_out)
+  exact_by problems search said (by_problem {s = other} c b) w command known p u =
+      exact_file (file_of search) (file_of other) (root_of search) (root_of other) (settings_of search) (settings_of other) problems said (same_file words other search c command) (same_root words other search c command) (same_settings words other search c.asked command.asked) b w known p u
 
-  pub answered_exact : OneProblem → OneAnswer → IsAnswered words told fb fn failed before now Failed status → (search : Search) (said : Answer) (t : Status) (lines : List (List ℕ)) →
-      IsCommand words search → AreTold told (file_of search) (root_of search) → ProblemOf told (file_of search) (root_of search) said → ¬ IsUnread said → AnswersProblem (file_of search) said t lines → IsGiven (concat lines) before now t status ⊎ IsFault status
-  answered_exact problems answers a search said t lines command known p u b = exact_by problems answers search said a.answers a.written command known p u b
+  pub answered_exact : OneProblem → IsAnswered words told fb fn failed before now Failed status → (search : Search) (said : Answer) →
+      IsCommand words search → AreTold told (file_of search) (root_of search) → ProblemOf told (file_of search) (root_of search) said → ¬ IsUnread said → IsExact (file_of search) (settings_of search) said before now status ⊎ IsFault status
+  answered_exact problems a search said command known p u = exact_by problems search said a.answers a.written command known p u
 
   answered_refuted : (c : Bool) → IsAnswered words told fb fn failed before now Failed status → status ≡ status_by c → IsRefutable words told c
   answered_refuted c a e = elim (written_status a.written) [

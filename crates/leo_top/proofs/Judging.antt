@@ -21,7 +21,7 @@ use Rattle.leo_top.specs.declared.check_status.CheckStatus.{CheckStatus}
 use Rattle.leo_top.specs.declared.check_status.CheckStatus.TheVariants.{Accepted, OSError, WriteFault}
 use Rattle.leo_top.specs.Answers.{IsMadeOf, IsCut}
 use Rattle.leo_top.specs.CheckTexts.{fault_line}
-use Rattle.leo_top.specs.Checking.{IsSameProblem, AnswersText, AnswersProof, by_text, by_length, by_fault, AnswersRefusal, by_unread, by_refusal, AnswersCheck, loaded, not_loaded, AnswersCheckCall, by_check, IsProvedFalse, IsPut, whole, cut, file_of, proof_of, root_of}
+use Rattle.leo_top.specs.Checking.{IsSameProblem, AnswersText, AnswersProof, by_text, by_fault, AnswersRefusal, by_unread, by_refusal, AnswersCheck, loaded, not_loaded, AnswersCheckCall, by_check, IsProvedFalse, IsPut, whole, cut, file_of, proof_of, root_of}
 use Rattle.leo_top.specs.Refusals.{is_of_file}
 use Rattle.leo_top.specs.Texts.{status_line, byte_line}
 

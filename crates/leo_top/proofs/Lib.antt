@@ -1,9 +1,5 @@
-pub mod Deciding
 pub mod Taking
-pub mod Shapes
-pub mod Formed
-pub mod Falsity
 pub mod Answering
 pub mod Judging
 pub mod Ending
-pub mod Denying
+pub mod Runs

@@ -1,5 +1,5 @@
 -- What the prover answers: for what the files of a problem say, and for a call.
-use Rattle.std.specs.Prelude.{◌≡◌, ◌⊎◌, ℕ, ◌<◌, Bool, List, [], ◌∷◌, ◌++◌, length, map, take, Option, Some, slice_get, codes, if◌then◌else◌}
+use Rattle.std.specs.Prelude.{◌≡◌, ◌⊎◌, ℕ, ◌<◌, Bool, List, [], ◌∷◌, ◌++◌, length, map, take, Option, Some, MatchOption, codes, if◌then◌else◌}
 use Rattle.std.specs.Option.{option_map}
 use Rattle.std.specs.List.{concat}
 use Rattle.std.specs.String.{string_bytes}
@@ -9,18 +9,27 @@ use Rattle.leo_command.specs.declared.leo3.Search.{Search}
 use Rattle.leo_command.specs.Commands.{IsMistake, IsRequest, IsSearch, leo3_app}
 use Rattle.leo_q0.specs.Connectives.{false_term}
 use Rattle.leo_q0.specs.Derivations.{Derives}
+use Rattle.leo_clause.specs.declared.record.StepRecord.{StepRecord}
+use Rattle.leo_kernel.specs.Records.{AreStepsOf}
+use Rattle.leo_kernel.specs.Steps.{line_at}
 use Rattle.leo_problem.specs.declared.refusal.LoadRefusal.TheVariants.{Refused}
 use Rattle.leo_problem.specs.declared.refusal.What.{What}
 use Rattle.leo_problem.specs.declared.refusal.What.TheVariants.{ReadFault}
+use Rattle.leo_problem.specs.Generating.{IsFileName, IsGenerator}
 use Rattle.leo_problem.specs.Theories.{Theory, Answer, says, refused}
-use Rattle.leo_problem.specs.Loading.{ProblemOf}
+use Rattle.leo_problem.specs.Loading.{ProblemOf, theory_of}
 use Rattle.leo_problem.specs.Loading as loading
+use Rattle.leo_derive.specs.Pruning.{IsPruned}
+use Rattle.leo_derive.specs.Verdicts.{IsRefutation, hypotheses_of}
+use Rattle.leo_core.specs.declared.event.Cause.{Cause}
+use Rattle.leo_core.specs.declared.event.Cause.TheVariants.{Won, Limit, Exhausted}
+use Rattle.leo_core.specs.declared.settings.Settings.{Settings}
+use Rattle.leo_core.specs.Books.{Pages, IsBook, lines_of, standing_of}
+use Rattle.leo_tstp.specs.Derivations.{printed}
 use Rattle.leo_top.specs.declared.status.Status.{Status}
 use Rattle.leo_top.specs.declared.status.Status.TheVariants.{Theorem, Unsatisfiable, GaveUp, SyntaxError, TypeError, InputError, UsageError, OSError, WriteFault, MemoryOut, Shown}
-use Rattle.leo_top.specs.Problem.{Hypothesis, formulas, IsFirstForm}
-use Rattle.leo_top.specs.Pairs.{IsFirstPair, HasNoPair, different}
 use Rattle.leo_top.specs.Refusals.{refused_status}
-use Rattle.leo_top.specs.Texts.{status_line, refuted_lines, exhausted_lines, noted_lines, refused_lines}
+use Rattle.leo_top.specs.Texts.{status_line, about_lines, refuted_lines, limit_lines, exhausted_lines, refused_lines}
 
 -- the word of a status, after the SZS ontology; a text that was asked for has no status line
 abbrev pub status_word : Status → List ℕ
@@ -62,6 +71,10 @@ file_of s = string_bytes s.file
 abbrev pub root_of : Search → Option (List ℕ)
 root_of s = option_map string_bytes s.root
 
+-- the settings of its run
+abbrev pub settings_of : Search → Settings
+settings_of s = record { turns = s.settings.turns; depth = s.settings.depth; weight = s.settings.weight }
+
 -- the words ask for no such search, and for no text
 pub record IsNoCommand (words : List (List ℕ)) : Type 0 where
   pub no_search : (s : Search) → ¬ IsCommand words s
@@ -71,33 +84,52 @@ pub record IsNoCommand (words : List (List ℕ)) : Type 0 where
 abbrev pub refuted_status : Bool → Status
 refuted_status conjectured = if conjectured then Theorem else Unsatisfiable
 
--- the answer to hypotheses, among which the negation of a conjecture may be: its status and its lines
-pub data AnswersHypotheses (file : List ℕ) (conjectured : Bool) (hypotheses : List Hypothesis) : Status → List (List ℕ) → Type 0 where
-  by_pair : {a b : ℕ} {asserted denied : Hypothesis} → IsFirstPair (formulas hypotheses) a b →
-      slice_get hypotheses a ≡ Some asserted → slice_get hypotheses b ≡ Some denied →
-      AnswersHypotheses file conjectured hypotheses (refuted_status conjectured) (refuted_lines (status_word (refuted_status conjectured)) file a asserted b denied)
-  by_no_pair : HasNoPair (formulas hypotheses) →
-      AnswersHypotheses file conjectured hypotheses GaveUp (exhausted_lines (status_word GaveUp) file (different (formulas hypotheses)))
+-- whether the file's name stands for a generated problem, and for which
+abbrev pub IsAbout : List ℕ → Option ℕ → Type 0
+IsAbout file about = MatchOption about (IsFileName file) (IsGenerator file)
 
--- the answer to what the files of a problem say: its status and its lines
-pub data AnswersProblem (file : List ℕ) : Answer → Status → List (List ℕ) → Type 0 where
-  by_form : {t : Theory} {hypotheses : List Hypothesis} {status : Status} {lines : List (List ℕ)} → IsFirstForm t hypotheses →
-      AnswersHypotheses file t.conjecture hypotheses status lines → AnswersProblem file (says t) status lines
-  by_no_form : {t : Theory} → ((hypotheses : List Hypothesis) → ¬ IsFirstForm t hypotheses) →
-      AnswersProblem file (says t) InputError (noted_lines (status_word InputError) file (codes "form not built"))
+-- a derivation of falsity from the problem of a book: its lines are lines of the search, pruned; they are accepted, and one
+-- of them is empty; so falsity is derivable in Q0 with choice from the problem's hypotheses
+pub record IsDerivationOf (p : Pages) (steps : List StepRecord) : Type 0 where
+  pub are_steps : AreStepsOf p.problem.bank steps
+  pub pruned : IsPruned (lines_of p) (map (line_at p.problem.bank) steps)
+  pub refutation : IsRefutation (hypotheses_of p.problem) (map (line_at p.problem.bank) steps)
+  pub falsity : Derives (map (λ h. h.formula) (theory_of p.problem).hypotheses) false_term
+
+-- the book of a run of this theory by these settings, which ended for that cause
+pub record IsRunEnded (t : Theory) (settings : Settings) (p : Pages) (cause : Cause) : Type 0 where
+  pub book : IsBook p
+  pub theory_is : theory_of p.problem ≡ t
+  pub settings_are : p.settings ≡ settings
+  pub ended : p.ending ≡ Some cause
+
+-- the answer to a run that ended for that cause: its status and its lines
+pub data AnswersRun (file : List ℕ) (p : Pages) : Cause → Status → List (List ℕ) → Type 0 where
+  by_win : (about : Option ℕ) (steps : List StepRecord) → IsAbout file about → IsDerivationOf p steps →
+      AnswersRun file p Won (refuted_status p.problem.conjecture)
+      (refuted_lines (status_word (refuted_status p.problem.conjecture)) file (about_lines about p.problem.statements) (printed p.problem steps))
+  by_limit : (about : Option ℕ) → IsAbout file about →
+      AnswersRun file p Limit GaveUp (limit_lines (status_word GaveUp) file (about_lines about p.problem.statements) p.settings.turns)
+  by_exhaustion : (about : Option ℕ) → IsAbout file about →
+      AnswersRun file p Exhausted GaveUp (exhausted_lines (status_word GaveUp) file (about_lines about p.problem.statements) (standing_of p).state.turns)
+
+-- the answer to what the files of a problem say, for a search by these settings: its status and its lines
+pub data AnswersProblem (file : List ℕ) (settings : Settings) : Answer → Status → List (List ℕ) → Type 0 where
+  by_run : {t : Theory} {p : Pages} {cause : Cause} {status : Status} {lines : List (List ℕ)} → IsRunEnded t settings p cause →
+      AnswersRun file p cause status lines → AnswersProblem file settings (says t) status lines
   by_refusal : {about : List ℕ} {byte : ℕ} {what : What} →
-      AnswersProblem file (refused (Refused about byte what)) (refused_status what) (refused_lines (status_word (refused_status what)) file about byte what)
+      AnswersProblem file settings (refused (Refused about byte what)) (refused_status what) (refused_lines (status_word (refused_status what)) file about byte what)
 
 -- the files say so, and they may: a file is unreadable only where the count of faults rose, and the fetch of that file failed last
 abbrev pub IsExcused : ℕ → ℕ → Option (List ℕ) → Answer → Type 0
 IsExcused before now failed (says t) = Unit {0}
 IsExcused before now failed (refused r) = loading.IsFault before now failed r
 
--- the answer to the problem of a file, with a folder of included files: its status and its lines
-pub data AnswersFile (file : List ℕ) (root : Option (List ℕ)) (told : List ℕ → Option (List ℕ)) (before now : ℕ) (failed : Option (List ℕ)) :
+-- the answer to the problem of a file, with a folder of included files, by these settings: its status and its lines
+pub data AnswersFile (file : List ℕ) (root : Option (List ℕ)) (settings : Settings) (told : List ℕ → Option (List ℕ)) (before now : ℕ) (failed : Option (List ℕ)) :
     Status → List (List ℕ) → Type 0 where
   by_files : {answer : Answer} {status : Status} {lines : List (List ℕ)} → ProblemOf told file root answer → IsExcused before now failed answer →
-      AnswersProblem file answer status lines → AnswersFile file root told before now failed status lines
+      AnswersProblem file settings answer status lines → AnswersFile file root settings told before now failed status lines
 
 -- the lines that say that no memory was found: for the file, or for the program
 pub data SaysNoMemory (file : List ℕ) : List (List ℕ) → Type 0 where
@@ -111,7 +143,7 @@ pub data AnswersCall (words : List (List ℕ)) (told : List ℕ → Option (List
   by_usage : IsNoCommand words → AnswersCall words told before now failed UsageError (status_line (status_word UsageError) (codes "leo3") ∷ [])
   by_request : {text : List ℕ} → IsRequest (fault_of leo3_app words) → AnswersCall words told before now failed Shown (text ∷ [])
   by_problem : {s : Search} {status : Status} {lines : List (List ℕ)} → IsCommand words s →
-      AnswersFile (file_of s) (root_of s) told before now failed status lines → AnswersCall words told before now failed status lines
+      AnswersFile (file_of s) (root_of s) (settings_of s) told before now failed status lines → AnswersCall words told before now failed status lines
   by_memory : {s : Search} {lines : List (List ℕ)} → IsCommand words s → SaysNoMemory (file_of s) lines → AnswersCall words told before now failed MemoryOut lines
   by_no_memory : AnswersCall words told before now failed MemoryOut (status_line (status_word MemoryOut) (codes "leo3") ∷ [])
 
@@ -145,15 +177,20 @@ pub record IsGiven (text : List ℕ) (before now : Option (List ℕ)) (due statu
   pub taken : now ≡ option_map (λ bytes. bytes ++ text) before
   pub same : status ≡ due
 
--- the files of the problem that the words name say a theory of the first form, with a conjecture or without, and falsity
--- is derivable in Q0 with choice from what it assumes
+-- an answer to what the files say was written whole
+pub record IsExact (file : List ℕ) (settings : Settings) (said : Answer) (before now : Option (List ℕ)) (status : Status) : Type 0 where
+  pub due : Status
+  pub lines : List (List ℕ)
+  pub answers : AnswersProblem file settings said due lines
+  pub given : IsGiven (concat lines) before now due status
+
+-- the files of the problem that the words name say a theory, with a conjecture or without, and falsity is derivable in Q0
+-- with choice from what it assumes
 pub record IsRefutable (words : List (List ℕ)) (told : List ℕ → Option (List ℕ)) (conjectured : Bool) : Type 0 where
   pub search : Search
   pub theory : Theory
-  pub hypotheses : List Hypothesis
   pub command : IsCommand words search
   pub said : ProblemOf told (file_of search) (root_of search) (says theory)
-  pub form : IsFirstForm theory hypotheses
   pub conjecture_is : theory.conjecture ≡ conjectured
   pub derived : Derives (map (λ h. h.formula) theory.hypotheses) false_term
 

@@ -1,11 +1,6 @@
-pub mod Problem
-pub mod Pairs
 pub mod Refusals
 pub mod Lines
-pub mod Names
 pub mod Texts
 pub mod Answers
-pub mod Checks
-pub mod Laws
 pub mod CheckTexts
 pub mod Checking

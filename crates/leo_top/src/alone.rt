@@ -5,6 +5,7 @@ ghost use Rattle.std.specs.Option.{option_copied};
 ghost use Rattle.clap.specs.Words.{fault_of};
 ghost use Rattle.leo_command.specs.Commands.{IsRequest, leo3_app};
 ghost use Rattle.leo_command.specs.declared.leo3.Search.{Search};
+ghost use Rattle.leo_core.specs.Limits.{AreSettings};
 ghost use Rattle.leo_edge.specs.Outside.{HasRisen};
 ghost use Rattle.leo_problem.specs.Laws.{AreTold, IsUnread};
 ghost use Rattle.leo_problem.specs.Loading.{ProblemOf};
@@ -13,11 +14,11 @@ ghost use Rattle.leo_top.specs.Answers as answers;
 ghost use Rattle.leo_top.specs.Texts.{status_line};
 
 use crate::answer::answer_file;
-use crate::laws::answers_are_unique;
 use crate::status::Status;
 use crate::texts::add_status;
 use crate::writing::put_text;
 use leo_command::{Asked, CommandRefusal, Search, leo3_asked};
+use leo_core::Settings;
 use leo_edge::{Files, Sink, Words};
 use leo_problem::laws::problems_are_unique;
 use std::alloc::{AllocError, Global};
@@ -102,13 +103,25 @@ fn root_of(search: &Search) -> Option<&str>
     }
 }
 
+// The settings of the run.
+fn settings_of(search: &Search) -> Settings
+    ensures { result ≡ answers.settings_of search.now }
+{
+    Settings {
+        turns: search.settings.turns,
+        depth: search.settings.depth,
+        weight: search.settings.weight,
+    }
+}
+
 // Answers for the problem of a search, and puts the answer.
 fn searched<F: Files, O: Sink>(alloc: Global, search: &Search, files: &mut F, out: &mut O) -> Alone
+    requires { AreSettings (answers.settings_of search.now) }
     ensures code { result.code ≡ answers.code_of result.status }
     ensures answer { (words : List (List ℕ)) → answers.IsCommand words search.now → answers.IsAnswered words (F.content files.old) (F.faults files.old) (F.faults files.new) (F.failed files.new) (O.taken out.old) (O.taken out.new) (HasRisen (O.faults out.old) (O.faults out.new)) result.status }
 {
     let file = search.file.as_str();
-    match answer_file(alloc, file, root_of(search), files) {
+    match answer_file(alloc, file, root_of(search), settings_of(search), files) {
         Ok(answer) => written(out, answer.status, &answer.text),
         Err(_) => without_memory(alloc, file, out),
     }
@@ -135,15 +148,14 @@ fn answered<F: Files, O: Sink>(alloc: Global, words: &Words, files: &mut F, out:
 
 /// Answers the words of a command: loads the problem that they name, and puts the answer line by line.
 ///
-/// The words are those of `leo3`, as [`leo_command::leo3_asked`] reads them; of its options only `--root` is used yet, and
-/// `--children` must be 0. `--help` and `--version` put their text, with status `Shown`. A problem has the first form
-/// where it has at most 1,000 statements and each hypothesis is a symbol or the negation of one; that of a conjecture is
-/// negated once more. Such a problem gives a derivation exactly where one of its hypotheses is the
-/// negation of another, as `Theorem` where there is a conjecture and as `Unsatisfiable` where there is
-/// none, and else `GaveUp`. A problem that is refused is a `SyntaxError`, a `TypeError` or an
-/// `InputError`, and one of another form an `InputError`. Other words are a `UsageError`. `OSError` comes
-/// only where the files' count of faults rose, `WriteFault` only where the sink's did, and `MemoryOut`
-/// for want of memory.
+/// The words are those of `leo3`, as [`leo_command::leo3_asked`] reads them; `--children` must be 0. `--help` and
+/// `--version` put their text, with status `Shown`. A search runs on the problem by `--turns`, `--depth` and `--weight`.
+/// Where it is won, the answer is a derivation of falsity from the problem's hypotheses, among which is the negation of
+/// its conjecture: as `Theorem` where there is a conjecture, and as `Unsatisfiable` where there is none. Else it is
+/// `GaveUp`, and says whether the turns were as many as the limit or no clause was left. Behind the status line of a
+/// generated problem stands how many statements it has. A problem that is refused is a `SyntaxError`, a `TypeError` or an
+/// `InputError`. Other words are a `UsageError`. `OSError` comes only where the files' count of faults rose, `WriteFault`
+/// only where the sink's did, and `MemoryOut` for want of memory.
 pub fn leo3_alone<F: Files, O: Sink>(
     alloc: Global,
     words: &Words,
@@ -155,7 +167,7 @@ pub fn leo3_alone<F: Files, O: Sink>(
     ensures answer { answers.IsAnswered words.now (F.content files.old) (F.faults files.old) (F.faults files.new) (F.failed files.new) (O.taken out.old) (O.taken out.new) (HasRisen (O.faults out.old) (O.faults out.new)) result.status }
     // Where the contents of all files that may be asked for are told, the answer to what they say is given, unless a
     // fault stands in the way.
-    ensures exact { (search : Search) (said : Answer) (status : Status) (lines : List (List ℕ)) → answers.IsCommand words.now search → AreTold (F.content files.old) (answers.file_of search) (answers.root_of search) → ProblemOf (F.content files.old) (answers.file_of search) (answers.root_of search) said → ¬ IsUnread said → answers.AnswersProblem (answers.file_of search) said status lines → answers.IsGiven (concat lines) (O.taken out.old) (O.taken out.new) status result.status ⊎ answers.IsFault result.status }
+    ensures exact { (search : Search) (said : Answer) → answers.IsCommand words.now search → AreTold (F.content files.old) (answers.file_of search) (answers.root_of search) → ProblemOf (F.content files.old) (answers.file_of search) (answers.root_of search) said → ¬ IsUnread said → answers.IsExact (answers.file_of search) (answers.settings_of search) said (O.taken out.old) (O.taken out.new) result.status ⊎ answers.IsFault result.status }
     // A theorem's conjecture follows: with its negation, falsity is derivable.
     ensures theorem { result.status ≡ Status.Theorem → answers.IsRefutable words.now (F.content files.old) true }
     // Without a conjecture, falsity is derivable from what is assumed.
@@ -168,6 +180,5 @@ pub fn leo3_alone<F: Files, O: Sink>(
     ensures write_fault { result.status ≡ Status.WriteFault → HasRisen (O.faults out.old) (O.faults out.new) }
 {
     problems_are_unique();
-    answers_are_unique();
     answered(alloc, words, files, out)
 }

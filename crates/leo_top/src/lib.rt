@@ -1,4 +1,4 @@
-//! The answer of the prover to a command: what it reads, what it decides and what it writes.
+//! The answer of the prover to a command: what it reads, how its search ends and what it writes.
 #![tactic(auto)]
 
 mod alone;
@@ -6,15 +6,11 @@ mod answer;
 mod check;
 mod check_answer;
 mod check_status;
-mod first_form;
-mod hypothesis;
-pub mod laws;
 mod lines;
-mod names;
-mod negations;
-mod pairs;
 mod program;
 mod refusal;
+mod running;
+mod searching;
 mod status;
 #[cfg(test)]
 mod tests;

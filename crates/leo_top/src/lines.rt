@@ -1,6 +1,6 @@
 //! What stands in the lines of an answer.
 ghost use Rattle.std.specs.Prelude.{◌≡◌, ◌++◌, map, IfOk, OnOk};
-ghost use Rattle.std.specs.List.{concat, flat_map};
+ghost use Rattle.std.specs.List.{concat};
 ghost use Rattle.leo_top.specs.Lines as lines;
 
 use std::alloc::{AllocError, Global};
@@ -39,36 +39,4 @@ pub fn shown(alloc: Global, name: &[u8]) -> Result<Vec<u8>, AllocError>
     ensures { IfOk result (λ v. v.items ≡ lines.shown name.now) }
 {
     name.iter().map(|b| shown_byte(*b)).collect(alloc)
-}
-
-fn add_escaped_byte(text: &mut Vec<u8>, byte: u8) -> Result<(), AllocError>
-    ensures { OnOk result (text.new.items ≡ text.old.items ++ lines.escaped byte) }
-{
-    if byte == b'\'' || byte == b'\\' {
-        text.push(b'\\')?;
-    }
-    text.push(byte)?;
-    Ok(())
-}
-
-/// Appends these bytes as they stand between quotes.
-pub fn add_escaped(text: &mut Vec<u8>, bytes: &[u8]) -> Result<(), AllocError>
-    ensures { OnOk result (text.new.items ≡ text.old.items ++ flat_map lines.escaped bytes.now) }
-{
-    for byte in bytes {
-        add_escaped_byte(text, *byte)?;
-    }
-    Ok(())
-}
-
-/// A file's name as it stands between quotes.
-pub fn quoted(alloc: Global, name: &[u8]) -> Result<Vec<u8>, AllocError>
-    ensures { IfOk result (λ v. v.items ≡ lines.quoted name.now) }
-{
-    if name.is_empty() {
-        return Vec::from_slice(alloc, b"?");
-    }
-    let mut text = Vec::new(alloc);
-    add_escaped(&mut text, &shown(alloc, name)?)?;
-    Ok(text)
 }

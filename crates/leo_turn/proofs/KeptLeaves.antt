@@ -1,5 +1,5 @@
 -- Leaves that are kept.
-use Rattle.std.proofs.Common.{ℕ, zero, suc, ◌≡◌, ◌∙◌, ◌+◌, ◌-◌, ◌<◌, List, [], ◌∷◌, ◌++◌, length, map, take, slice_get, Option, Some, refl, sym, ap, subst}
+use Rattle.std.proofs.Common.{ℕ, zero, suc, ◌≡◌, ◌∙◌, ◌+◌, ◌-◌, ◌<◌, List, [], ◌∷◌, ◌++◌, length, map, take, slice_get, Option, Some, refl, sym, ap, subst, arith}
 use Rattle.std.specs.Prelude.{slice_index_or}
 use Rattle.std.proofs.lemmas.List.{map-append}
 use Rattle.leo_terms.specs.Contents.{Contents}
@@ -22,13 +22,12 @@ use Rattle.leo_turn.proofs.Growing.{grows-itself, grows-trans}
 use Rattle.leo_turn.proofs.Lists.{stands-at, take-next, get-front_same, get-within, longer-itself, longer-map, longer-trans}
 use Rattle.leo_turn.proofs.Valid.{clause-longer, search-clause, search-lines}
 
-pub leaf-ready : (c : Contents) (s : Search) (n : ℕ) (leaf : Leaf) → IsSearch c s → IsLeafAt c s n leaf → AreReady c s.lines s.abbr_at n leaf.records
+pub leaf-ready : (c : Contents) (s : Search) (n : ℕ) (leaf : Leaf) → IsSearch c s → IsLeafAt c s n leaf → AreReady c s.lines (s.abbr_at ++ n ∷ []) leaf.records
 leaf-ready c s n leaf h l = record {
   choices = choices_of c s;
-  start = l.start;
-  choice_lines = h.choice_lines;
-  clause = l.clause;
-  plain = l.plain;
+  clauses = l.start ∷ [];
+  some = omega arith;
+  first = record { symbols = s.abbr_at; parents = n ∷ []; numbers_are = refl; choice_lines = h.choice_lines; clause_lines = (l.clause, tt); plain = (l.plain, tt) };
   steps = l.leaf_of.steps;
   accepted = l.leaf_of.accepted;
 }
@@ -38,7 +37,7 @@ kept-leaf c s n w leaf lines h few l a longer weight =
     let valid : IsSearch c (with_lines s lines) = search-lines c s lines h longer (a.steps h.steps) (a.accepted (hypotheses_of c s) h.accepted) in
     let line : HasClause (map (line_at c) lines) (length lines - 1) (clause_at c leaf.clause) = subst (HasClause (map (line_at c) lines) (length lines - 1)) l.leaf_of.ends (a.ends l.start l.leaf_of.some) in
     record {
-      search = search-clause c (with_lines s lines) leaf.clause (length lines - 1) w valid few l.leaf_of.typed l.leaf_of.normal line weight;
+      search = search-clause c (with_lines s lines) leaf.clause (length lines - 1) w valid few l.leaf_of.typed l.leaf_of.normal line (a.plain l.leaf_of.some) weight;
       start = record { abbr = refl; lines = longer-map (line_at c) longer };
       kept = refl;
     }

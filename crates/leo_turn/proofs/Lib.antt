@@ -7,3 +7,12 @@ mod Introducing
 mod KeptLeaves
 mod Splitting
 mod Taken
+mod Worked
+mod Places
+mod Paramodulated
+mod Alone
+mod Inferred
+mod Sorting
+mod Passives
+mod Assumptions
+mod Turned

@@ -60,6 +60,34 @@ pub length-map : {X Y : Type 0} (f : X → Y) (xs : List X) → length (map f xs
 length-map f [] = refl
 length-map f (x ∷ xs) = ap suc (length-map f xs)
 
+pub some-same : {X : Type 0} (x y : X) → Some x ≡ Some y → x ≡ y
+some-same x y e = cc
+
+pub map-fused : {X Y Z : Type 0} (f : Y → Z) (g : X → Y) (xs : List X) → map f (map g xs) ≡ map (λ x. f (g x)) xs
+map-fused f g [] = refl
+map-fused {X} {Y} {Z} f g (x ∷ xs) = ap (λ (zs : List Z). f (g x) ∷ zs) (map-fused f g xs)
+
+pub map-agree : {X Y : Type 0} (f g : X → Y) (xs : List X) → ((n : ℕ) (x : X) → slice_get xs n ≡ Some x → f x ≡ g x) → map f xs ≡ map g xs
+map-agree f g [] h = refl
+map-agree {X} {Y} f g (x ∷ xs) h = ap (λ (y : Y). y ∷ map f xs) (h zero x refl) ∙ ap (λ (ys : List Y). g x ∷ ys) (map-agree f g xs (λ n u e. h (suc n) u e))
+
+-- an item that a mapped list has
+pub get-made : {X Y : Type 0} (f : X → Y) (xs : List X) (n : ℕ) (y : Y) → slice_get (map f xs) n ≡ Some y → (x : X) × ((slice_get xs n ≡ Some x) × (f x ≡ y))
+get-made f [] n y e = absurd cc
+get-made f (x ∷ xs) zero y e = (x, (refl, cc))
+get-made f (x ∷ xs) (suc n) y e = get-made f xs n y e
+
+pub get-there : {X : Type 0} (xs : List X) (i : ℕ) → i < length xs → (x : X) × (slice_get xs i ≡ Some x)
+get-there [] i l = absurd (let f : ⊥ = omega arith in f)
+get-there (x ∷ xs) zero l = (x, refl)
+get-there (x ∷ xs) (suc i) l = get-there xs i (omega arith)
+
+pub take-all : {X : Type 0} (n : ℕ) (xs : List X) → length xs ≤ n → take n xs ≡ xs
+take-all zero [] l = refl
+take-all zero (x ∷ xs) l = absurd (let f : ⊥ = omega arith in f)
+take-all (suc n) [] l = refl
+take-all {X} (suc n) (x ∷ xs) l = ap (λ (ys : List X). x ∷ ys) (take-all n xs (omega arith))
+
 pub get-map : {X Y : Type 0} (f : X → Y) (xs : List X) (i : ℕ) (x : X) → slice_get xs i ≡ Some x → slice_get (map f xs) i ≡ Some (f x)
 get-map f [] i x e = absurd cc
 get-map f (y ∷ xs) zero x e = let g : y ≡ x = cc in rw g refl
@@ -75,6 +103,11 @@ pub stands-at : {X : Type 0} (xs : List X) (i : ℕ) (x : X) → i < length xs �
 stands-at [] i x l e = absurd (let f : ⊥ = omega arith in f)
 stands-at (y ∷ xs) zero x l e = let f : x ≡ y = e in rw f refl
 stands-at (y ∷ xs) (suc i) x l e = stands-at xs i x (omega arith) e
+
+pub stands-there : (xs : List ℕ) (i : ℕ) → i < length xs → slice_get xs i ≡ Some (slice_index_or xs i 0)
+stands-there [] i l = absurd (let f : ⊥ = omega arith in f)
+stands-there (x ∷ xs) zero l = refl
+stands-there (x ∷ xs) (suc i) l = stands-there xs i (omega arith)
 
 pub below-last : (m n : ℕ) → m < suc n → (m < n) ⊎ (m ≡ n)
 below-last m n h = grind arith

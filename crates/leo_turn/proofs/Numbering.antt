@@ -4,7 +4,7 @@ use Rattle.std.specs.Prelude.{slice_index_or}
 use Rattle.std.specs.List.{Contains}
 use Rattle.std.proofs.lemmas.List.{append_assoc, get_or_append_left, length-append, map-append}
 use Rattle.std.proofs.Math.Seq.{get_or-append_seam}
-use Rattle.leo_terms.specs.Tree.{Tree}
+use Rattle.leo_terms.specs.Tree.{Tree, symbol, truth_type}
 use Rattle.leo_terms.specs.Contents.{Contents}
 use Rattle.leo_clause.specs.declared.record.StepRecord.{StepRecord}
 use Rattle.leo_clause.specs.Choices.{Choice}
@@ -14,15 +14,15 @@ use Rattle.leo_kernel.specs.Conclusions.{HasShape}
 use Rattle.leo_kernel.specs.Conditions.{HasParents, IsLineIfNamed}
 use Rattle.leo_kernel.specs.Records.{IsStepOf, AreStepsOf}
 use Rattle.leo_kernel.specs.Steps.{StepRule, assume, convert, inst, para, arrange, drop_literal, take_apart, bool_ext, func_ext, decompose, reflexivity, choose, factor, abbreviate, Line, line_at, rule_at, clause_in}
-use Rattle.leo_kernel.specs.Symbols.{HasSymbol, LackSymbol, LinesLackSymbol, LiteralsLackSymbol, RuleLacksSymbol, abbreviation_at, abbreviation_of}
-use Rattle.leo_clausify.specs.Leaves.{choice_line, first_lines, last_clause}
+use Rattle.leo_kernel.specs.Symbols.{HasSymbol, LackSymbol, LinesLackSymbol, LiteralsLackSymbol, RuleLacksSymbol, abbreviation_at, abbreviation_in, abbreviation_of}
+use Rattle.leo_clausify.specs.Leaves.{choice_line, last_clause}
 use Rattle.leo_derive.specs.Marking.{AreNumbersBelow}
 use Rattle.leo_derive.specs.Pruning.{numbered_line}
 use Rattle.leo_derive.specs.Resting.{if_named, named}
 use Rattle.leo_derive.proofs.Renumbered.{IsSameLine, same_line, numbered_accepted}
-use Rattle.leo_turn.specs.Changing.{AreReady, AreSame, IsAppended, IsSame}
+use Rattle.leo_turn.specs.Changing.{AreReady, AreSame, IsAppended, IsSame, lines_before}
 use Rattle.leo_turn.specs.Growth.{IsLonger}
-use Rattle.leo_turn.specs.Searches.{HasClause, HaveChoices}
+use Rattle.leo_turn.specs.Searches.{ArePlain, HasClause, HaveChoices, HaveClauses}
 use Rattle.leo_turn.proofs.Lists.{below-last, get-map, get-within, stands-at, take-next, get-front_same, get-last, length-map, longer-itself, longer-trans}
 use Rattle.leo_turn.proofs.Valid.{accepted-added, steps-added}
 
@@ -99,9 +99,27 @@ lines-lack s (l ∷ ls) h =
     let q = lack-parts s (rule_terms l.rule) (line_terms ls) p.1 in
     (literals-lack s l.clause.literals p.0, rule-lacks s l.rule q.0, lines-lack s ls q.1)
 
-lack-first : (s : ℕ) (choices : List Choice) (start : ClauseTree) (sigma : List Tree) (rest : List Line) → LinesLackSymbol s (first_lines choices start (inst 0 sigma) ++ rest) → LackSymbol s sigma
-lack-first s [] start sigma rest h = h.1
-lack-first s (k ∷ choices) start sigma rest h = lack-first s choices start sigma rest h.2
+lack-first : (s : ℕ) (choices : List Choice) (clauses : List ClauseTree) (sigma : List Tree) (rest : List Line) → 0 < length clauses → LinesLackSymbol s (lines_before choices clauses (inst 0 sigma) ++ rest) → LackSymbol s sigma
+lack-first s [] [] sigma rest l h = absurd (let f : ⊥ = omega arith in f)
+lack-first s [] (k ∷ clauses) sigma rest l h = h.1
+lack-first s (k ∷ choices) clauses sigma rest l h = lack-first s choices clauses sigma rest l h.2
+
+-- a rule that is accepted whatever terms are there introduces no symbol
+never-new : (lines : List Tree → List Line) (clause : ClauseTree) (r : StepRule) → ((s : ℕ) (sigma : List Tree) → LinesLackSymbol s (lines sigma) → LackSymbol s sigma) → ((sigma : List Tree) → HasSymbol [] (lines sigma) clause r) → abbreviation_in r clause.literals ≡ None
+never-new lines clause (abbreviate s) f h = absurd ((f s (symbol s truth_type ∷ []) (h (symbol s truth_type ∷ [])).lines_lack).0 refl)
+never-new lines clause (assume n) f h = refl
+never-new lines clause (convert n) f h = refl
+never-new lines clause (inst n sigma) f h = refl
+never-new lines clause (para n i a q j r path) f h = refl
+never-new lines clause (arrange n) f h = refl
+never-new lines clause (drop_literal n i) f h = refl
+never-new lines clause (take_apart n i kind a) f h = refl
+never-new lines clause (bool_ext n i half) f h = refl
+never-new lines clause (func_ext n i a) f h = refl
+never-new lines clause (decompose n i) f h = refl
+never-new lines clause reflexivity f h = refl
+never-new lines clause choose f h = refl
+never-new lines clause (factor n i j) f h = refl
 
 -- what is accepted from no hypotheses is accepted from any, if a new symbol is new to these
 module _ (hypotheses : List Tree) (lines : List Line) where
@@ -194,48 +212,65 @@ same-next earlier later numbers number x s = record {
         let f : get_or (numbers ++ length later ∷ []) (length earlier) 0 ≡ length later = subst (λ n. get_or (numbers ++ length later ∷ []) n 0 ≡ length later) s.as_many (get_or-append_seam numbers (length later) [] 0) in
         subst (λ n. IsSame (earlier ++ x ∷ []) (later ++ numbered_line number x ∷ []) n (get_or (numbers ++ length later ∷ []) n 0)) (sym e) (rw f last)
 
--- the lines of the choice symbols and of the clause
-module _ (later : List Line) (n : ℕ) (start : ClauseTree) (h : HasClause later n start) (plain : abbreviation_of later n ≡ None) (sigma : List Tree) where
-  first-many : (symbols : List ℕ) (choices : List Choice) → HaveChoices later symbols choices → length (symbols ++ n ∷ []) ≡ length (first_lines choices start (inst 0 sigma))
-  first-many [] [] g = refl
-  first-many [] (k ∷ choices) g = absurd g
-  first-many (m ∷ symbols) [] g = absurd g
-  first-many (m ∷ symbols) (k ∷ choices) g = ap suc (first-many symbols choices g.1)
+-- the lines of the choice symbols and of the clauses
+module _ (later : List Line) (sigma : List Tree) where
+  clauses-many : (parents : List ℕ) (clauses : List ClauseTree) → HaveClauses later parents clauses → length parents ≡ length (lines_before [] clauses (inst 0 sigma))
+  clauses-many [] [] g = refl
+  clauses-many [] (k ∷ clauses) g = absurd g
+  clauses-many (n ∷ parents) [] g = absurd g
+  clauses-many (n ∷ parents) (k ∷ clauses) g = ap suc (clauses-many parents clauses g.1)
 
-  first-same : (symbols : List ℕ) (choices : List Choice) → HaveChoices later symbols choices → (p : ℕ) → p < length (first_lines choices start (inst 0 sigma)) → IsSame (first_lines choices start (inst 0 sigma)) later p (get_or (symbols ++ n ∷ []) p 0)
-  first-same [] [] g zero l = record { within = get-within later n h.line h.stands; clause_same = ap clause_in h.stands ∙ h.clause_is; abbreviation_same = plain }
-  first-same [] [] g (suc p) l = absurd (let f : ⊥ = omega arith in f)
-  first-same [] (k ∷ choices) g p l = absurd g
-  first-same (m ∷ symbols) [] g p l = absurd g
-  first-same (m ∷ symbols) (k ∷ choices) g zero l = record { within = get-within later m (choice_line k) g.0; clause_same = ap clause_in g.0; abbreviation_same = ap abbreviation_at g.0 }
-  first-same (m ∷ symbols) (k ∷ choices) g (suc p) l = let s = first-same symbols choices g.1 p (omega arith) in record { within = s.within; clause_same = s.clause_same; abbreviation_same = s.abbreviation_same }
+  clauses-same : (parents : List ℕ) (clauses : List ClauseTree) → HaveClauses later parents clauses → ArePlain later parents → (p : ℕ) → p < length (lines_before [] clauses (inst 0 sigma)) → IsSame (lines_before [] clauses (inst 0 sigma)) later p (get_or parents p 0)
+  clauses-same [] [] g h p l = absurd (let f : ⊥ = omega arith in f)
+  clauses-same [] (k ∷ clauses) g h p l = absurd g
+  clauses-same (n ∷ parents) [] g h p l = absurd g
+  clauses-same (n ∷ parents) (k ∷ clauses) g h zero l = record { within = get-within later n g.0.line g.0.stands; clause_same = ap clause_in g.0.stands ∙ g.0.clause_is; abbreviation_same = h.0 }
+  clauses-same (n ∷ parents) (k ∷ clauses) g h (suc p) l = let s = clauses-same parents clauses g.1 h.1 p (omega arith) in record { within = s.within; clause_same = s.clause_same; abbreviation_same = s.abbreviation_same }
+
+  module _ (parents : List ℕ) (clauses : List ClauseTree) (h : HaveClauses later parents clauses) (plain : ArePlain later parents) where
+    first-many : (symbols : List ℕ) (choices : List Choice) → HaveChoices later symbols choices → length (symbols ++ parents) ≡ length (lines_before choices clauses (inst 0 sigma))
+    first-many [] [] g = clauses-many parents clauses h
+    first-many [] (k ∷ choices) g = absurd g
+    first-many (m ∷ symbols) [] g = absurd g
+    first-many (m ∷ symbols) (k ∷ choices) g = ap suc (first-many symbols choices g.1)
+
+    first-same : (symbols : List ℕ) (choices : List Choice) → HaveChoices later symbols choices → (p : ℕ) → p < length (lines_before choices clauses (inst 0 sigma)) → IsSame (lines_before choices clauses (inst 0 sigma)) later p (get_or (symbols ++ parents) p 0)
+    first-same [] [] g p l = clauses-same parents clauses h plain p l
+    first-same [] (k ∷ choices) g p l = absurd g
+    first-same (m ∷ symbols) [] g p l = absurd g
+    first-same (m ∷ symbols) (k ∷ choices) g zero l = record { within = get-within later m (choice_line k) g.0; clause_same = ap clause_in g.0; abbreviation_same = ap abbreviation_at g.0 }
+    first-same (m ∷ symbols) (k ∷ choices) g (suc p) l = let s = first-same symbols choices g.1 p (omega arith) in record { within = s.within; clause_same = s.clause_same; abbreviation_same = s.abbreviation_same }
 
 -- some of the records were appended
 pub record IsOnWay (c : Contents) (old lines : List StepRecord) (numbers : List ℕ) (records : List StepRecord) (i : ℕ) : Type 0 where
   pub choices : List Choice
-  pub start : ClauseTree
+  pub clauses : List ClauseTree
+  pub some : 0 < length clauses
   pub of_bank : AreStepsOf c records
-  pub follow : (rule : StepRule) → AreAcceptedAfter (first_lines choices start rule) (map (line_at c) records)
+  pub follow : (rule : StepRule) → AreAcceptedAfter (lines_before choices clauses rule) (map (line_at c) records)
   pub longer : IsLonger old lines
   pub steps : AreStepsOf c old → AreStepsOf c lines
   pub accepted : (hypotheses : List Tree) → AreAccepted hypotheses (map (line_at c) old) → AreAccepted hypotheses (map (line_at c) lines)
-  pub same : (sigma : List Tree) → AreSame (first_lines choices start (inst 0 sigma) ++ take i (map (line_at c) records)) (map (line_at c) lines) numbers
+  pub same : (sigma : List Tree) → AreSame (lines_before choices clauses (inst 0 sigma) ++ take i (map (line_at c) records)) (map (line_at c) lines) numbers
   pub ends : (k : ClauseTree) → 0 < i → HasClause (map (line_at c) lines) (length lines - 1) (last_clause k (take i (map (line_at c) records)))
+  pub plain : 0 < i → abbreviation_of (map (line_at c) lines) (length lines - 1) ≡ None
 
-pub way-first : (c : Contents) (old : List StepRecord) (symbols : List ℕ) (n : ℕ) (records : List StepRecord) → AreReady c old symbols n records → IsOnWay c old old (symbols ++ n ∷ []) records 0
-way-first c old symbols n records r = record {
+pub way-first : (c : Contents) (old : List StepRecord) (numbers : List ℕ) (records : List StepRecord) → AreReady c old numbers records → IsOnWay c old old numbers records 0
+way-first c old numbers records r = record {
   choices = r.choices;
-  start = r.start;
+  clauses = r.clauses;
+  some = r.some;
   of_bank = r.steps;
   follow = r.accepted;
   longer = longer-itself old;
   steps = λ h. h;
   accepted = λ hs h. h;
-  same = λ sigma. subst (λ ls. AreSame ls (map (line_at c) old) (symbols ++ n ∷ [])) (sym (append-nil (first_lines r.choices r.start (inst 0 sigma)))) (record {
-    as_many = first-many (map (line_at c) old) n r.start r.clause r.plain sigma symbols r.choices r.choice_lines;
-    same = first-same (map (line_at c) old) n r.start r.clause r.plain sigma symbols r.choices r.choice_lines;
-  });
+  same = λ sigma. subst (λ ls. AreSame ls (map (line_at c) old) numbers) (sym (append-nil (lines_before r.choices r.clauses (inst 0 sigma)))) (subst (AreSame (lines_before r.choices r.clauses (inst 0 sigma)) (map (line_at c) old)) (sym r.first.numbers_are) (record {
+    as_many = first-many (map (line_at c) old) sigma r.first.parents r.clauses r.first.clause_lines r.first.plain r.first.symbols r.choices r.first.choice_lines;
+    same = first-same (map (line_at c) old) sigma r.first.parents r.clauses r.first.clause_lines r.first.plain r.first.symbols r.choices r.first.choice_lines;
+  }));
   ends = λ k l. absurd (let f : ⊥ = omega arith in f);
+  plain = λ l. absurd (let f : ⊥ = omega arith in f);
 }
 
 last-added : (k : ClauseTree) (ls : List Line) (l : Line) → last_clause k (ls ++ l ∷ []) ≡ l.clause
@@ -244,13 +279,16 @@ last-added k (j ∷ ls) l = last-added j.clause ls l
 
 module _ (c : Contents) (old lines : List StepRecord) (numbers : List ℕ) (records : List StepRecord) (i : ℕ) (r : StepRecord) (w : IsOnWay c old lines numbers records i) (l : i < length records) (is : r ≡ slice_index_or records i r) where
   abbrev before : List Tree → List Line
-  before sigma = first_lines w.choices w.start (inst 0 sigma) ++ take i (map (line_at c) records)
+  before sigma = lines_before w.choices w.clauses (inst 0 sigma) ++ take i (map (line_at c) records)
 
   pub way-step : IsStepOf c r
   way-step = w.of_bank i r (stands-at records i r l is)
 
   follows : (sigma : List Tree) → Accepts [] (before sigma) (line_at c r)
   follows sigma = w.follow (inst 0 sigma) i (line_at c r) (get-map (line_at c) records i r (stands-at records i r l is))
+
+  plain-step : abbreviation_in (rule_at c r.rule) (line_at c r).clause.literals ≡ None
+  plain-step = never-new before (line_at c r).clause (rule_at c r.rule) (λ s sigma h. lack-first s w.choices w.clauses sigma (take i (map (line_at c) records)) w.some h) (λ sigma. (follows sigma).symbols)
 
   pub way-named : AreNumbersBelow (length numbers) (named (rule_at c r.rule))
   way-named = rw ((w.same []).as_many) (named-below [] (before []) (rule_at c r.rule) (follows []).parents)
@@ -264,7 +302,7 @@ module _ (c : Contents) (old lines : List StepRecord) (numbers : List ℕ) (reco
   numbered : (hypotheses : List Tree) → Accepts hypotheses (map (line_at c) lines) (numbered_line (λ n. get_or numbers n 0) (line_at c r))
   numbered hypotheses =
       let sigma : List Tree = hypotheses ++ line_terms (map (line_at c) lines) in
-      let lack : (s : ℕ) → LinesLackSymbol s (before sigma) → LackSymbol s hypotheses × LackSymbol s (line_terms (map (line_at c) lines)) = λ s h. lack-parts s hypotheses (line_terms (map (line_at c) lines)) (lack-first s w.choices w.start sigma (take i (map (line_at c) records)) h) in
+      let lack : (s : ℕ) → LinesLackSymbol s (before sigma) → LackSymbol s hypotheses × LackSymbol s (line_terms (map (line_at c) lines)) = λ s h. lack-parts s hypotheses (line_terms (map (line_at c) lines)) (lack-first s w.choices w.clauses sigma (take i (map (line_at c) records)) w.some h) in
       numbered_accepted hypotheses (before sigma) (map (line_at c) lines) (λ n. get_or numbers n 0) (line_at c r) (known sigma)
       (λ s h. lines-lack s (map (line_at c) lines) (lack s h).1)
       (more-hypotheses hypotheses (before sigma) (line_at c r) (λ s h. (lack s h).0) (follows sigma))
@@ -277,7 +315,8 @@ module _ (c : Contents) (old lines : List StepRecord) (numbers : List ℕ) (reco
       let done : take (i + 1) (map (line_at c) records) ≡ take i (map (line_at c) records) ++ line_at c r ∷ [] = take-next (map (line_at c) records) i (line_at c r) get in
       record {
         choices = w.choices;
-        start = w.start;
+        clauses = w.clauses;
+        some = w.some;
         of_bank = w.of_bank;
         follow = w.follow;
         longer = longer-trans w.longer (record { more = a.record_of ∷ []; is = a.appended });
@@ -285,10 +324,10 @@ module _ (c : Contents) (old lines : List StepRecord) (numbers : List ℕ) (reco
         accepted = λ hs h. subst (AreAccepted hs) (sym read) (accepted-added hs (map (line_at c) lines) (numbered_line (λ n. get_or numbers n 0) (line_at c r)) (w.accepted hs h) (numbered hs));
         same = λ sigma.
             let n = same-next (before sigma) (map (line_at c) lines) numbers (λ n. get_or numbers n 0) (line_at c r) (w.same sigma) in
-            let e : before sigma ++ line_at c r ∷ [] ≡ first_lines w.choices w.start (inst 0 sigma) ++ take (i + 1) (map (line_at c) records) = append_assoc (first_lines w.choices w.start (inst 0 sigma)) (take i (map (line_at c) records)) (line_at c r ∷ []) ∙ ap (λ (ls : List Line). first_lines w.choices w.start (inst 0 sigma) ++ ls) (sym done) in
+            let e : before sigma ++ line_at c r ∷ [] ≡ lines_before w.choices w.clauses (inst 0 sigma) ++ take (i + 1) (map (line_at c) records) = append_assoc (lines_before w.choices w.clauses (inst 0 sigma)) (take i (map (line_at c) records)) (line_at c r ∷ []) ∙ ap (λ (ls : List Line). lines_before w.choices w.clauses (inst 0 sigma) ++ ls) (sym done) in
             let f : numbers ++ length (map (line_at c) lines) ∷ [] ≡ more = ap (λ m. numbers ++ m ∷ []) count ∙ sym a.number in
-            subst (λ (ns : List ℕ). AreSame (first_lines w.choices w.start (inst 0 sigma) ++ take (i + 1) (map (line_at c) records)) (map (line_at c) later) ns) f
-            (subst (λ (ls : List Line). AreSame (first_lines w.choices w.start (inst 0 sigma) ++ take (i + 1) (map (line_at c) records)) ls (numbers ++ length (map (line_at c) lines) ∷ [])) (sym read)
+            subst (λ (ns : List ℕ). AreSame (lines_before w.choices w.clauses (inst 0 sigma) ++ take (i + 1) (map (line_at c) records)) (map (line_at c) later) ns) f
+            (subst (λ (ls : List Line). AreSame (lines_before w.choices w.clauses (inst 0 sigma) ++ take (i + 1) (map (line_at c) records)) ls (numbers ++ length (map (line_at c) lines) ∷ [])) (sym read)
             (subst (λ (ls : List Line). AreSame ls (map (line_at c) lines ++ numbered_line (λ n. get_or numbers n 0) (line_at c r) ∷ []) (numbers ++ length (map (line_at c) lines) ∷ [])) e n));
         ends = λ k z.
             let m : length later - 1 ≡ length (map (line_at c) lines) = (let x : length later ≡ length lines + 1 = ap length a.appended ∙ length-append lines (a.record_of ∷ []) in omega arith) in
@@ -297,4 +336,8 @@ module _ (c : Contents) (old lines : List StepRecord) (numbers : List ℕ) (reco
               stands = rw (read, m) (get-last (map (line_at c) lines) (numbered_line (λ n. get_or numbers n 0) (line_at c r)));
               clause_is = sym (ap (last_clause k) done ∙ last-added k (take i (map (line_at c) records)) (line_at c r));
             };
+        plain = λ z.
+            let m : length later - 1 ≡ length (map (line_at c) lines) = (let x : length later ≡ length lines + 1 = ap length a.appended ∙ length-append lines (a.record_of ∷ []) in omega arith) in
+            let stands : slice_get (map (line_at c) later) (length later - 1) ≡ Some (numbered_line (λ n. get_or numbers n 0) (line_at c r)) = rw (read, m) (get-last (map (line_at c) lines) (numbered_line (λ n. get_or numbers n 0) (line_at c r))) in
+            ap abbreviation_at stands ∙ (same_line (λ n. get_or numbers n 0) (line_at c r ∷ []) (numbered_line (λ n. get_or numbers n 0) (line_at c r) ∷ []) 0 0 (line_at c r) refl refl).abbreviation_same ∙ plain-step;
       }

@@ -34,14 +34,14 @@ pub record AreMore (known : ℕ) (choices later : List Choice) : Type 0 where
   pub is : later ≡ choices ++ more
   pub high : AreHigh known more
 
-more-none : (known : ℕ) (choices : List Choice) → AreMore known choices choices
+pub more-none : (known : ℕ) (choices : List Choice) → AreMore known choices choices
 unfolding AreHigh
 more-none known choices = record { more = []; is = sym (append-nil choices); high = tt }
 
-more-trans : (known : ℕ) (a b c : List Choice) → AreMore known a b → AreMore known b c → AreMore known a c
+pub more-trans : (known : ℕ) (a b c : List Choice) → AreMore known a b → AreMore known b c → AreMore known a c
 more-trans known a b c g h = record { more = g.more ++ h.more; is = h.is ∙ ap (λ (ks : List Choice). ks ++ h.more) g.is ∙ append_assoc a g.more h.more; high = high-both known g.more h.more g.high h.high }
 
-chosen-more : (known : ℕ) (choices later : List Choice) (t : Tree) (n : ℕ) (k : Choice) → Chooses known choices t later n k → AreMore known choices later
+pub chosen-more : (known : ℕ) (choices later : List Choice) (t : Tree) (n : ℕ) (k : Choice) → Chooses known choices t later n k → AreMore known choices later
 unfolding AreHigh
 chosen-more known choices later t n k (earliest m j e f g) = more-none known choices
 chosen-more known choices later t n k (added j e f g h) = record { more = j ∷ []; is = refl; high = (f, tt) }

@@ -67,26 +67,31 @@ get-behind [] ys i x l e = (i, e)
 get-behind (y ∷ xs) ys zero x l e = absurd (let f : ⊥ = omega arith in f)
 get-behind (y ∷ xs) ys (suc i) x l e = get-behind xs ys i x (omega arith) e
 
--- after a split
-module _ {c d : Contents} (e : Extends c d) (s : Search) (h : IsSearch c s) (abbr : Abbr) (room : ℕ) (start : ClauseTree) (leaves : List ClauseTree) (split : Splits (length c.symbols) room (choices_of c s) start (choices_at d abbr) leaves) (order : AreInOrder d abbr.items) where
-  more : AreMore (length c.symbols) (choices_of c s) (choices_at d abbr)
-  more = splits-more (length c.symbols) room (choices_of c s) (choices_at d abbr) start leaves split
+-- with choice symbols more, each of which has a number that no earlier symbol has
+module _ {c d : Contents} (e : Extends c d) (s : Search) (h : IsSearch c s) (items : List (ℕ × ℕ)) (more : AreMore (length c.symbols) (choices_of c s) (map (choice_at d) items)) (order : AreInOrder d items) where
+  pub more-longer : IsLonger s.abbr.items items
+  more-longer = items-longer e s.abbr.items items more.more h.choices.of_bank order.of_bank more.is
 
-  pub split-longer : IsLonger s.abbr.items abbr.items
-  split-longer = items-longer e s.abbr.items abbr.items more.more h.choices.of_bank order.of_bank more.is
-
-  high : (n : ℕ) (k : ℕ × ℕ) → slice_get abbr.items n ≡ Some k → length s.abbr.items ≤ n → length c.symbols ≤ k.0
+  high : (n : ℕ) (k : ℕ × ℕ) → slice_get items n ≡ Some k → length s.abbr.items ≤ n → length c.symbols ≤ k.0
   high n k g l =
-      let there : slice_get (choices_of c s ++ more.more) n ≡ Some (choice_at d k) = subst (λ (ks : List Choice). slice_get ks n ≡ Some (choice_at d k)) more.is (get-map (choice_at d) abbr.items n k g) in
+      let there : slice_get (choices_of c s ++ more.more) n ≡ Some (choice_at d k) = subst (λ (ks : List Choice). slice_get ks n ≡ Some (choice_at d k)) more.is (get-map (choice_at d) items n k g) in
       let many = length-map (choice_at c) s.abbr.items in
       let b = get-behind (choices_of c s) more.more n (choice_at d k) (omega arith) there in
       high-at (length c.symbols) more.more b.0 (choice_at d k) more.high b.1
 
-  pub split-new : AreNew d s abbr.items
-  split-new = record {
+  pub more-new : AreNew d s items
+  more-new = record {
     hypotheses_lack = λ n k g l. subst (LackSymbol k.0) (sym (hypotheses-same e s h)) (terms-lack c (old_bank e) k.0 (high n k g l) s.hyps h.hypotheses);
     lines_lack = λ n k g l. subst (LinesLackSymbol k.0) (sym (lines-same e s h)) (lines-lack c (old_bank e) k.0 (high n k g l) s.lines h.steps);
   }
+
+-- after a split
+module _ {c d : Contents} (e : Extends c d) (s : Search) (h : IsSearch c s) (abbr : Abbr) (room : ℕ) (start : ClauseTree) (leaves : List ClauseTree) (split : Splits (length c.symbols) room (choices_of c s) start (choices_at d abbr) leaves) (order : AreInOrder d abbr.items) where
+  pub split-longer : IsLonger s.abbr.items abbr.items
+  split-longer = more-longer e s h abbr.items (splits-more (length c.symbols) room (choices_of c s) (choices_at d abbr) start leaves split) order
+
+  pub split-new : AreNew d s abbr.items
+  split-new = more-new e s h abbr.items (splits-more (length c.symbols) room (choices_of c s) (choices_at d abbr) start leaves split) order
 
 -- leaves in a bank that grew
 leaf-grow : {c d : Contents} → Extends c d → (choices : List Choice) (start : ClauseTree) (leaf : Leaf) → IsLeafOf c choices start leaf → IsLeafOf d choices start leaf

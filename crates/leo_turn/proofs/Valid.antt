@@ -1,5 +1,5 @@
 -- Valid searches stay valid.
-use Rattle.std.proofs.Common.{ℕ, zero, suc, ◌≡◌, ◌∙◌, ◌+◌, ◌<◌, ◌⊎◌, inl, inr, false, List, [], ◌∷◌, ◌++◌, length, map, take, slice_get, Some, refl, sym, ap, subst, eq-eqb, ne_eqb, arith}
+use Rattle.std.proofs.Common.{ℕ, zero, suc, ◌≡◌, ◌∙◌, ◌+◌, ◌<◌, ◌⊎◌, inl, inr, false, List, [], ◌∷◌, ◌++◌, length, map, take, slice_get, Some, None, refl, sym, ap, subst, eq-eqb, ne_eqb, arith}
 use Rattle.std.specs.Prelude.{nat_eq}
 use Rattle.leo_terms.specs.Tree.{Tree}
 use Rattle.leo_terms.specs.Contents.{Contents, Extends}
@@ -12,6 +12,7 @@ use Rattle.leo_clause.specs.Typed.{IsTyped, IsTypedIn}
 use Rattle.leo_kernel.specs.Acceptance.{Accepts, AreAccepted}
 use Rattle.leo_kernel.specs.Records.{IsStepOf, AreStepsOf}
 use Rattle.leo_kernel.specs.Steps.{Line, line_at}
+use Rattle.leo_kernel.specs.Symbols.{abbreviation_at, abbreviation_of}
 use Rattle.leo_kernel.proofs.Growing.{clause-grow, clause-kept}
 use Rattle.leo_kernel.proofs.LinesGrowing.{lines-kept, lines-grow}
 use Rattle.leo_clausify.specs.Choosing.{AreInOrder, AreChoices}
@@ -23,10 +24,10 @@ use Rattle.leo_passive.specs.Entries.{Entry, AreBelow}
 use Rattle.leo_turn.specs.declared.search.Search.{Search}
 use Rattle.leo_turn.specs.Changing.{with_lines, with_choice, with_clause}
 use Rattle.leo_turn.specs.Growth.{IsLonger}
-use Rattle.leo_turn.specs.Searches.{AreAbove, AreAllBelow, AreNormalIn, AreShared, HasClause, HaveChoices, HaveClauses, HaveWeights, IsRising, IsSearch, choices_of, hypotheses_of, kept_of, lines_of, numbers_of, passive_weight, times}
+use Rattle.leo_turn.specs.Searches.{AreAbove, AreAllBelow, AreNormalIn, ArePlain, AreShared, HasClause, HaveChoices, HaveClauses, HaveWeights, IsRising, IsSearch, choices_of, hypotheses_of, kept_of, lines_of, numbers_of, passive_weight, times}
 use Rattle.std.proofs.lemmas.List.{length-append, map-append, take-append-le}
 use Rattle.std.proofs.Math.Seq.{take-append_seam}
-use Rattle.leo_turn.proofs.Lists.{below-last, get-added, get-last, get-within, length-map, longer-get, longer-map}
+use Rattle.leo_turn.proofs.Lists.{below-last, get-added, get-last, get-within, length-map, longer-get, longer-map, some-same}
 
 -- lines more
 pub clause-longer : {lines later : List Line} → IsLonger lines later → (n : ℕ) (k : ClauseTree) → HasClause lines n k → HasClause later n k
@@ -37,6 +38,18 @@ clauses-longer l [] [] h = tt
 clauses-longer l [] (k ∷ ks) h = absurd h
 clauses-longer l (n ∷ ns) [] h = absurd h
 clauses-longer l (n ∷ ns) (k ∷ ks) h = (clause-longer l n k h.0, clauses-longer l ns ks h.1)
+
+pub plain-longer : {lines later : List Line} → IsLonger lines later → (ns : List ℕ) (ks : List ClauseTree) → HaveClauses lines ns ks → ArePlain lines ns → ArePlain later ns
+plain-longer l [] [] h p = tt
+plain-longer l [] (k ∷ ks) h p = absurd h
+plain-longer l (n ∷ ns) [] h p = absurd h
+plain-longer {lines} {later} l (n ∷ ns) (k ∷ ks) h p =
+    let same : slice_get later n ≡ slice_get lines n = longer-get l n h.0.line h.0.stands ∙ sym h.0.stands in
+    (ap abbreviation_at same ∙ p.0, plain-longer l ns ks h.1 p.1)
+
+plain-added : (lines : List Line) (ns : List ℕ) (n : ℕ) → ArePlain lines ns → abbreviation_of lines n ≡ None → ArePlain lines (ns ++ n ∷ [])
+plain-added lines [] n h p = (p, tt)
+plain-added lines (m ∷ ns) n h p = (h.0, plain-added lines ns n h.1 p)
 
 pub choices-longer : {lines later : List Line} → IsLonger lines later → (ns : List ℕ) (ks : List Choice) → HaveChoices lines ns ks → HaveChoices later ns ks
 choices-longer l [] [] h = tt
@@ -77,6 +90,7 @@ search-lines c s ls h l steps a = record {
   normal = h.normal;
   few = h.few;
   clause_lines = clauses-longer (longer-map (line_at c) l) s.at (kept_of c s) h.clause_lines;
+  plain = plain-longer (longer-map (line_at c) l) s.at (kept_of c s) h.clause_lines h.plain;
   shared = h.shared;
   weights = h.weights;
 }
@@ -126,6 +140,7 @@ module _ {c d : Contents} (e : Extends c d) where
       normal = normal-grow s.kept h.typed h.normal;
       few = h.few;
       clause_lines = rw (lines-same, kept-same) h.clause_lines;
+      plain = rw lines-same h.plain;
       shared = h.shared;
       weights = rw kept-same h.weights;
     }
@@ -162,6 +177,7 @@ search-choice c s line item h order step is a =
       normal = h.normal;
       few = h.few;
       clause_lines = clauses-longer longer s.at (kept_of c s) h.clause_lines;
+      plain = plain-longer longer s.at (kept_of c s) h.clause_lines h.plain;
       shared = h.shared;
       weights = h.weights;
     }
@@ -223,11 +239,8 @@ weights-added : (ks : List ClauseTree) (es : List Entry) (e : Entry) → HaveWei
 weights-added ks [] e h g = (g, tt)
 weights-added ks (d ∷ es) e h g = (h.0, weights-added ks es e h.1 g)
 
-some-same : {X : Type 0} (x y : X) → Some x ≡ Some y → x ≡ y
-some-same x y e = cc
-
-pub search-clause : (c : Contents) (s : Search) (k : Clause) (n w : ℕ) → IsSearch c s → length s.kept < 200000 → IsTypedIn c k → AreNormal (clause_at c k).literals → HasClause (lines_of c s) n (clause_at c k) → w ≡ passive_weight (clause_at c k) → IsSearch c (with_clause s k n w)
-search-clause c s k n w h few typed normal line weight =
+pub search-clause : (c : Contents) (s : Search) (k : Clause) (n w : ℕ) → IsSearch c s → length s.kept < 200000 → IsTypedIn c k → AreNormal (clause_at c k).literals → HasClause (lines_of c s) n (clause_at c k) → abbreviation_of (lines_of c s) n ≡ None → w ≡ passive_weight (clause_at c k) → IsSearch c (with_clause s k n w)
+search-clause c s k n w h few typed normal line plain weight =
     let more : map (clause_at c) (s.kept ++ k ∷ []) ≡ kept_of c s ++ clause_at c k ∷ [] = map-append (clause_at c) s.kept (k ∷ []) in
     let count : length (s.kept ++ k ∷ []) ≡ length s.kept + 1 = length-append s.kept (k ∷ []) in
     let same : length (kept_of c s) ≡ length s.kept = length-map (clause_at c) s.kept in
@@ -244,6 +257,7 @@ search-clause c s k n w h few typed normal line weight =
       normal = normal-added c s.kept k h.normal normal;
       few = omega arith;
       clause_lines = rw more (clauses-added (lines_of c s) s.at (kept_of c s) n (clause_at c k) h.clause_lines line);
+      plain = plain-added (lines_of c s) s.at n h.plain plain;
       shared = (let e : length (s.kept ++ k ∷ []) ≡ suc (length s.kept) = omega arith in rw e (shared-next (length s.kept) w s.active s.passive h.shared));
       weights = rw more (weights-added (kept_of c s ++ clause_at c k ∷ []) s.passive (record { number = length s.kept; weight = w }) (weights-longer (kept_of c s) (clause_at c k ∷ []) s.passive below h.weights) (λ j g. weight ∙ ap passive_weight (some-same (clause_at c k) j (sym last ∙ g))));
     }

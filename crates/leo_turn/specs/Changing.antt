@@ -11,13 +11,13 @@ use Rattle.leo_kernel.specs.Acceptance.{AreAccepted, AreAcceptedAfter}
 use Rattle.leo_kernel.specs.Records.{IsStepOf, AreStepsOf}
 use Rattle.leo_kernel.specs.Steps.{StepRule, Line, convert, line_at, rule_at, clause_of}
 use Rattle.leo_kernel.specs.Symbols.{LackSymbol, LinesLackSymbol, abbreviation_of}
-use Rattle.leo_clausify.specs.Leaves.{IsLeafOf, choice_line, first_lines, last_clause}
+use Rattle.leo_clausify.specs.Leaves.{IsLeafOf, choice_line, last_clause}
 use Rattle.leo_clausify.specs.declared.leaves.Leaf.{Leaf}
 use Rattle.leo_derive.specs.Pruning.{numbered_line}
 use Rattle.leo_passive.specs.Entries.{Entry, without, has_number}
 use Rattle.leo_turn.specs.declared.marks.Mark.{Mark}
 use Rattle.leo_turn.specs.declared.search.Search.{Search}
-use Rattle.leo_turn.specs.Searches.{HasClause, HaveChoices, IsSearch, choices_of, hypotheses_of, lines_of}
+use Rattle.leo_turn.specs.Searches.{ArePlain, HasClause, HaveChoices, HaveClauses, IsSearch, choices_of, hypotheses_of, lines_of}
 use Rattle.leo_turn.specs.Growth.{IsLonger}
 use Rattle.leo_turn.specs.Intakes.{normal_clause}
 use Rattle.leo_clausify.specs.Splitting.{AreNormal}
@@ -86,21 +86,34 @@ pub record IsAppended (c : Contents) (r : StepRecord) (old new : List StepRecord
   pub appended : new ≡ old ++ record_of ∷ []
   pub number : later ≡ numbers ++ length old ∷ []
 
--- the records follow on the lines of some choice symbols and the line n
-pub record AreReady (c : Contents) (lines : List StepRecord) (symbols : List ℕ) (n : ℕ) (records : List StepRecord) : Type 0 where
-  pub choices : List Choice
-  pub start : ClauseTree
-  pub choice_lines : HaveChoices (map (line_at c) lines) symbols choices
-  pub clause : HasClause (map (line_at c) lines) n start
-  pub plain : abbreviation_of (map (line_at c) lines) n ≡ None
-  pub steps : AreStepsOf c records
-  pub accepted : (rule : StepRule) → AreAcceptedAfter (first_lines choices start rule) (map (line_at c) records)
+-- the lines of choice symbols, and then lines of clauses, which all come by one rule
+abbrev pub lines_before : List Choice → List ClauseTree → StepRule → List Line
+lines_before choices clauses rule = map choice_line choices ++ map (λ k. record { clause = k; rule = rule }) clauses
 
--- a journal with these records more is one still, and ends with their last clause
+-- the lines with these numbers are those of choice symbols, and then plain ones of clauses
+pub record AreFirst (lines : List Line) (numbers : List ℕ) (choices : List Choice) (clauses : List ClauseTree) : Type 0 where
+  pub symbols : List ℕ
+  pub parents : List ℕ
+  pub numbers_are : numbers ≡ symbols ++ parents
+  pub choice_lines : HaveChoices lines symbols choices
+  pub clause_lines : HaveClauses lines parents clauses
+  pub plain : ArePlain lines parents
+
+-- the records follow on the lines with these numbers, those of some choice symbols and then of one clause or more
+pub record AreReady (c : Contents) (lines : List StepRecord) (numbers : List ℕ) (records : List StepRecord) : Type 0 where
+  pub choices : List Choice
+  pub clauses : List ClauseTree
+  pub some : 0 < length clauses
+  pub first : AreFirst (map (line_at c) lines) numbers choices clauses
+  pub steps : AreStepsOf c records
+  pub accepted : (rule : StepRule) → AreAcceptedAfter (lines_before choices clauses rule) (map (line_at c) records)
+
+-- a journal with these records more is one still, and ends with their last clause, in a line that does not abbreviate
 pub record AreAppended (c : Contents) (records old new : List StepRecord) : Type 0 where
   pub steps : AreStepsOf c old → AreStepsOf c new
   pub accepted : (hypotheses : List Tree) → AreAccepted hypotheses (map (line_at c) old) → AreAccepted hypotheses (map (line_at c) new)
   pub ends : (k : ClauseTree) → 0 < length records → HasClause (map (line_at c) new) (length new - 1) (last_clause k (map (line_at c) records))
+  pub plain : 0 < length records → abbreviation_of (map (line_at c) new) (length new - 1) ≡ None
 
 -- no line and no hypothesis has the symbol of an item that is not introduced yet
 pub record AreNew (c : Contents) (s : Search) (items : List (ℕ × ℕ)) : Type 0 where

@@ -1,5 +1,5 @@
 -- When a search is valid.
-use Rattle.std.specs.Prelude.{ℕ, suc, ◌≡◌, ◌+◌, ◌-◌, ◌^◌, ◌<◌, ◌≤◌, List, [], ◌∷◌, length, map, min, nat_eq, slice_get, Some, if◌then◌else◌}
+use Rattle.std.specs.Prelude.{ℕ, suc, ◌≡◌, ◌+◌, ◌-◌, ◌^◌, ◌<◌, ◌≤◌, List, [], ◌∷◌, length, map, min, nat_eq, slice_get, Some, None, if◌then◌else◌}
 use Rattle.leo_terms.specs.Tree.{Tree}
 use Rattle.leo_terms.specs.Contents.{Contents, AreTerms, tree_at}
 use Rattle.leo_clause.specs.declared.clause.Clause.{Clause}
@@ -9,6 +9,7 @@ use Rattle.leo_clause.specs.Weights.{clause_weight}
 use Rattle.leo_kernel.specs.Acceptance.{AreAccepted}
 use Rattle.leo_kernel.specs.Records.{AreStepsOf}
 use Rattle.leo_kernel.specs.Steps.{Line, line_at}
+use Rattle.leo_kernel.specs.Symbols.{abbreviation_of}
 use Rattle.leo_clausify.specs.Choosing.{AreInOrder}
 use Rattle.leo_clausify.specs.Leaves.{choice_line}
 use Rattle.leo_clausify.specs.Splitting.{AreNormal}
@@ -46,6 +47,11 @@ HaveClauses lines [] [] = Unit {0}
 HaveClauses lines [] (k ∷ ks) = ⊥
 HaveClauses lines (n ∷ ns) [] = ⊥
 HaveClauses lines (n ∷ ns) (k ∷ ks) = HasClause lines n k × HaveClauses lines ns ks
+
+-- no line with one of these numbers abbreviates
+abbrev pub ArePlain : List Line → List ℕ → Type 0
+ArePlain lines [] = Unit {0}
+ArePlain lines (n ∷ ns) = (abbreviation_of lines n ≡ None) × ArePlain lines ns
 
 -- the lines with these numbers abbreviate by these choice symbols, one for each
 abbrev pub HaveChoices : List Line → List ℕ → List Choice → Type 0
@@ -103,5 +109,6 @@ pub record IsSearch (c : Contents) (s : Search) : Type 0 where
   pub normal : AreNormalIn c s.kept
   pub few : length s.kept ≤ 200000
   pub clause_lines : HaveClauses (lines_of c s) s.at (kept_of c s)
+  pub plain : ArePlain (lines_of c s) s.at
   pub shared : AreShared (length s.kept) s.active s.passive
   pub weights : HaveWeights (kept_of c s) s.passive

@@ -1,6 +1,6 @@
 //! Lines at the end of the journal.
 
-ghost use Rattle.std.specs.Prelude.{◌≡◌, ◌<◌, length, IfOk, OnErr};
+ghost use Rattle.std.specs.Prelude.{◌≡◌, ◌<◌, ◌∷◌, ◌++◌, [], length, IfOk, OnErr};
 ghost use Rattle.leo_kernel.specs.Records.{IsStepOf};
 ghost use Rattle.leo_kernel.specs.Steps.{rule_at};
 ghost use Rattle.leo_derive.specs.Marking.{AreNumbersBelow};
@@ -33,23 +33,34 @@ fn append_record(
     Ok(())
 }
 
-/// Appends the records of a leaf, which follow on the lines of the choice symbols and the line `start`.
+/// Appends records, which follow on the lines with the numbers `first`.
 pub(crate) fn append_records(
     alloc: Global,
     bank: &Bank,
     lines: &mut Items<StepRecord>,
-    symbols: &[u64],
-    start: u64,
+    first: &[u64],
     records: &[StepRecord],
 ) -> Result<(), AllocError>
-    requires { AreReady bank.now lines.old symbols.now start records.now }
+    requires { AreReady bank.now lines.old first.now records.now }
     ensures appended { IfOk result (λ _. AreAppended bank.now records.now lines.old lines.new) }
     ensures longer { IsLonger lines.old lines.new }
 {
-    let mut numbers = Items::from_slice(alloc, symbols)?;
-    numbers.push(start)?;
+    let mut numbers = Items::from_slice(alloc, first)?;
     for step in records {
         append_record(alloc, bank, lines, &mut numbers, step)?;
     }
     Ok(())
+}
+
+/// The numbers, and one more behind them.
+pub(crate) fn with_number(
+    alloc: Global,
+    numbers: &[u64],
+    number: u64,
+) -> Result<Items<u64>, AllocError>
+    ensures { IfOk result (λ ns. ns ≡ numbers.now ++ number ∷ []) }
+{
+    let mut more = Items::from_slice(alloc, numbers)?;
+    more.push(number)?;
+    Ok(more)
 }

@@ -10,7 +10,7 @@ ghost use Rattle.leo_turn.specs.Growth.{Grows};
 ghost use Rattle.leo_turn.specs.Intakes.{Takes, TakesAll};
 ghost use Rattle.leo_turn.specs.Searches.{IsSearch, kept_of};
 
-use crate::journal::append_records;
+use crate::journal::{append_records, with_number};
 use crate::search::Search;
 use leo_clause::{Clause, weight};
 use leo_clausify::Leaf;
@@ -53,15 +53,9 @@ fn keep_leaf(
 {
     let clause = leaf.clause.copy(alloc)?;
     let weight = weight(bank, &clause);
+    let first = with_number(alloc, search.abbr_at.as_slice(), start)?;
     let records = leaf.records.as_slice();
-    append_records(
-        alloc,
-        bank,
-        &mut search.lines,
-        search.abbr_at.as_slice(),
-        start,
-        records,
-    )?;
+    append_records(alloc, bank, &mut search.lines, first.as_slice(), records)?;
     let line = search.lines.len() as u64 - 1;
     keep(search, clause, line, weight)?;
     Ok(())

@@ -2,12 +2,19 @@
 #![tactic(auto)]
 
 mod choices;
+mod inferring;
 mod journal;
 mod keeping;
 mod marks;
 mod normal;
+mod partnering;
 mod search;
+mod starting;
 mod taking;
+mod turning;
+mod working;
 
 pub use search::Search;
+pub use starting::start;
 pub use taking::intake;
+pub use turning::{TurnRecord, turn};

@@ -1,13 +1,13 @@
 //! Loads small problems from files in memory, and says what each asks for and what it answers.
 #![tactic(auto)]
 
-ghost use Rattle.std.specs.Prelude.{◌≡◌};
+ghost use Rattle.std.specs.Prelude.{◌≡◌, ◌≤◌};
 
 mod asked;
 
 use asked::Asked;
 use leo_items::Items;
-use leo_problem::{LoadRefusal, Problem, load};
+use leo_problem::{LoadRefusal, Problem, generate, load};
 use std::alloc::AllocError;
 use std::process::ExitCode;
 use std::str::from_utf8;
@@ -153,6 +153,34 @@ fn many(rt: &(impl Print + AllocGlobal)) -> Result<(), AllocError> {
     Ok(())
 }
 
+/// Loads a name where there are no files.
+fn no_file(rt: &(impl Print + AllocGlobal), name: &str) {
+    let _ = println!(rt; "no file: {name}");
+    let mut files = Asked::new(rt.alloc());
+    row(rt, &mut files, name, None);
+}
+
+/// Shows the generated text of that number.
+fn shown(rt: &(impl Print + AllocGlobal), count: u32) -> Result<(), AllocError>
+    requires { (1 ≤ count) × (count ≤ 100000) }
+{
+    let text = generate(rt.alloc(), count)?;
+    if let Ok(text) = from_utf8(&text) {
+        let _ = print!(rt; "{text}");
+    }
+    Ok(())
+}
+
+fn generated(rt: &(impl Print + AllocGlobal)) -> Result<(), AllocError> {
+    shown(rt, 2)?;
+    no_file(rt, "gen:1");
+    no_file(rt, "gen:0");
+    no_file(rt, "gen:01");
+    no_file(rt, "gen:100001");
+    one_file(rt, "include('gen:1').")?;
+    Ok(())
+}
+
 fn rows(rt: &(impl Print + AllocGlobal)) -> Result<(), AllocError> {
     refusals(rt)?;
     typings(rt)?;
@@ -161,6 +189,7 @@ fn rows(rt: &(impl Print + AllocGlobal)) -> Result<(), AllocError> {
     itself(rt)?;
     missing(rt)?;
     many(rt)?;
+    generated(rt)?;
     Ok(())
 }
 

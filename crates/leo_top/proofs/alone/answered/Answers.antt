@@ -5,8 +5,12 @@ use Rattle.std.proofs.lemmas.List.{append-nil}
 use Rattle.leo_top.specs.declared.status.Status.TheVariants.{MemoryOut, Shown, UsageError}
 use Rattle.leo_top.specs.Answers.{by_usage, by_request, by_no_memory, status_word}
 use Rattle.leo_top.specs.Texts.{status_line}
-use Rattle.leo_top.proofs.Answering.{lines_written, not_taken, with_children}
+use Rattle.leo_top.proofs.Answering.{lines_written, not_taken, settings_within, with_children}
 use Rattle.leo_top.proofs.alone.answered.Goals as goal
+
+pub searched-requires : goal.searched-requires
+searched-requires g c =
+    settings_within c.args.words.now c.in-Ok-Work.search (subst (λ a. IsAskedOf leo3_app IsSearchIn c.args.words.now (Ok a)) c.in-Ok-Work.field-0-is c.in-Ok-Work.ensures)
 
 pub returns-in-Ok-Work-clause-answer : goal.returns-in-Ok-Work-clause-answer
 returns-in-Ok-Work-clause-answer g c = record {

@@ -2,7 +2,7 @@ use Rattle.leo_top.proofs.Ending.{answered_exact, answered_theorem, answered_uns
 use Rattle.leo_top.proofs.alone.leo3_alone.Goals as goal
 
 pub returns-clause-exact : goal.returns-clause-exact
-returns-clause-exact g c = answered_exact c.problems_are_unique.ensures c.answers_are_unique.ensures c.answered.ensures.answer
+returns-clause-exact g c = answered_exact c.problems_are_unique.ensures c.answered.ensures.answer
 
 pub returns-clause-theorem : goal.returns-clause-theorem
 returns-clause-theorem g c = answered_theorem c.answered.ensures.answer

@@ -6,7 +6,7 @@ use Rattle.leo_top.proofs.alone.searched.Goals as goal
 
 pub returns-in-Ok-clause-answer : goal.returns-in-Ok-clause-answer
 returns-in-Ok-clause-answer g c = λ words k.
-    let made = asked_answered c.args.search.now c.as_str-file.ensures.value c.root_of.ensures c.in-Ok.ensures words k in
+    let made = asked_answered c.args.search.now c.as_str-file.ensures.value c.root_of.ensures c.settings_of.ensures c.in-Ok.ensures words k in
     record {
       due = c.in-Ok.answer.status;
       lines = made.lines;

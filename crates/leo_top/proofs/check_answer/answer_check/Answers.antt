@@ -1,4 +1,3 @@
-use Rattle.std.proofs.Common.{sym}
 use Rattle.leo_top.proofs.Judging.{accepted-weaker, loaded_answered, proved_false, refusal_answered, refusal_is_not_accepted}
 use Rattle.leo_top.proofs.check_answer.answer_check.Goals as goal
 

@@ -2,7 +2,7 @@ use Rattle.leo_turn.proofs.Numbering.{way-first, way-named, way-next, way-step}
 use Rattle.leo_turn.proofs.journal.append_records.Goals as goal
 
 pub loop-step-init : goal.loop-step-init
-loop-step-init c = rw (c.in_ok-push.ensures.ok, c.in_ok-numbers.ensures) (way-first c.args.bank.now c.args.lines.now c.args.symbols.now c.args.start c.args.records.now c.requires)
+loop-step-init c = rw c.in_ok-numbers.ensures (way-first c.args.bank.now c.args.lines.now c.args.first.now c.args.records.now c.requires)
 
 pub append_record-requires-clause-step : goal.append_record-requires-clause-step
 append_record-requires-clause-step c = way-step c.args.bank.now c.args.lines.now c.loop-step.lines c.loop-step.numbers c.args.records.now c.loop-step.step-index c.step-item.result c.loop-step.invariant c.loop-step-test.true c.step-item.is

@@ -9,8 +9,11 @@ use Rattle.leo_turn.proofs.keeping.keep_leaf.Goals as goal
 pub returns-in_err-clause-clause-longer : goal.returns-in_err-clause-clause-longer
 returns-in_err-clause-clause-longer c = grows-itself c.args.search.now
 
+pub returns-in_err-first-clause-longer : goal.returns-in_err-first-clause-longer
+returns-in_err-first-clause-longer c = grows-itself c.args.search.now
+
 pub append_records-requires : goal.append_records-requires
-append_records-requires c = rw (c.as_slice.ensures, c.as_slice-records.ensures) (leaf-ready c.args.bank.now c.args.search.now c.args.start c.args.leaf.now c.requires.search c.requires.leaf)
+append_records-requires c = rw (c.as_slice-2.ensures, c.in_ok-first.ensures, c.as_slice.ensures, c.as_slice-records.ensures) (leaf-ready c.args.bank.now c.args.search.now c.args.start c.args.leaf.now c.requires.search c.requires.leaf)
 
 pub returns-in_err-append_records-clause-longer : goal.returns-in_err-append_records-clause-longer
 returns-in_err-append_records-clause-longer c = grows-lines c.args.search.now c.append_records.new.lines c.append_records.ensures.longer

@@ -1,0 +1,11 @@
+use Rattle.fo_terms.specs.Substitutions.{apply}
+use Rattle.fo_replay.specs.Replays.{images}
+use Rattle.fo_replay.specs.Instances.{as_terms}
+use Rattle.fo_replay.proofs.Nodes.{applied_nodes, term_built}
+use Rattle.fo_super.proofs.applying.applied.Goals as goal
+
+pub built-requires : goal.built-requires
+built-requires c = (apply (images (as_terms c.args.terms.now)) c.args.term.now, applied_nodes (images (as_terms c.args.terms.now)) c.args.term.now c.nodes.result.now c.in_ok-nodes.nodes.items c.nodes.ensures c.in_ok-nodes.ensures)
+
+pub returns : goal.returns
+returns c = term_built c.built.result (apply (images (as_terms c.args.terms.now)) c.args.term.now) c.in_ok-nodes.nodes.items (applied_nodes (images (as_terms c.args.terms.now)) c.args.term.now c.nodes.result.now c.in_ok-nodes.nodes.items c.nodes.ensures c.in_ok-nodes.ensures) c.built.ensures

@@ -1,0 +1,10 @@
+pub mod Literals
+pub mod Tautologies
+pub mod Subsumption
+pub mod Outcomes
+pub mod Matching
+pub mod Laws
+pub mod Numbering
+pub mod Members
+pub mod Conclusions
+pub mod Turns

@@ -1,0 +1,116 @@
+//! The outcome of a clause.
+
+ghost use Rattle.std.specs.Prelude.{◌≡◌, ◌<◌, ◌≤◌, ◌⊎◌, length, IfOk, MatchOption};
+ghost use Rattle.std.specs.Bool.{Decides};
+ghost use Rattle.fo_super.specs.Subsumption.{Subsumes};
+ghost use Rattle.fo_super.specs.Outcomes.{HoldsOfNone, IsHeavy, IsIdentical, IsLeast, LacksRoom, OutcomeOf};
+
+use crate::identity::is_identical;
+use crate::outcomes::FoOutcome;
+use crate::subsuming::subsumes;
+use crate::tautologies::is_tautology;
+use crate::weights::is_heavier;
+use fo_text::problem::{FoClause, FoSym};
+use std::alloc::{AllocError, Global};
+
+/// How many literals a kept clause has at most.
+const MOST_LITERALS: usize = 64;
+
+/// How many clauses are kept at most.
+const MOST_CLAUSES: usize = 100_000;
+
+/// How heavy a clause is at most that a line gives.
+const MOST_WEIGHT: u32 = 100_000;
+
+/// Whether a clause has too many literals, or too many clauses are kept.
+fn lacks_room(kept: &[FoClause], clause: &FoClause) -> bool
+    ensures { Decides result (LacksRoom kept.now clause.now) }
+{
+    clause.lits.len() > MOST_LITERALS || kept.len() >= MOST_CLAUSES
+}
+
+/// Whether a clause weighs more than the limit, or the instance of which it is a part could not be
+/// replayed.
+fn is_heavy(clause: &FoClause, limit: u32, instance: &FoClause) -> bool
+    ensures { Decides result (IsHeavy limit instance.now clause.now) }
+{
+    if is_heavier(instance.lits.as_slice(), MOST_WEIGHT) {
+        return true;
+    }
+    is_heavier(clause.lits.as_slice(), limit)
+}
+
+/// The least number of a kept clause that is the same.
+fn copied(kept: &[FoClause], clause: &FoClause) -> Option<u32>
+    requires few { length kept.now < 100000 }
+    ensures { MatchOption result (HoldsOfNone (λ k. IsIdentical k clause.now) kept.now) (IsLeast (λ k. IsIdentical k clause.now) kept.now) }
+{
+    for number in 0..kept.len() {
+        if is_identical(&kept[number], clause) {
+            return Some(number as u32);
+        }
+    }
+    None
+}
+
+/// The least number of a kept clause that subsumes the clause.
+fn subsuming(
+    alloc: Global,
+    syms: &[FoSym],
+    kept: &[FoClause],
+    clause: &FoClause,
+) -> Result<Option<u32>, AllocError>
+    requires few { length kept.now < 100000 }
+    ensures { IfOk result (λ o. MatchOption o (HoldsOfNone (λ k. Subsumes syms.now k clause.now) kept.now) (IsLeast (λ k. Subsumes syms.now k clause.now) kept.now)) }
+{
+    for number in 0..kept.len() {
+        let found = subsumes(alloc, syms, &kept[number], clause)?;
+        if found {
+            return Ok(Some(number as u32));
+        }
+    }
+    Ok(None)
+}
+
+/// The first of these that holds of a clause that was found, where `kept` are the kept clauses and
+/// `instance` is the instance of which it is a part:
+///
+/// - [`FoOutcome::Tautology`]: a literal is `s = s`; or two are `s = t` and `s != t`, as they are or
+///   turned; or two are `A = T` and `A = F`, where T and F are the symbols 0 and 1.
+/// - [`FoOutcome::Room`]: it has over 64 literals, or 100,000 clauses are kept.
+/// - [`FoOutcome::Heavy`]: it weighs more than `weight`, or the instance more than 100,000.
+/// - [`FoOutcome::Copy`]: a kept clause differs at most in variables that stand in no literal; the
+///   least number of one.
+/// - [`FoOutcome::Subsumed`]: a kept clause of one to three literals has a substitution, which sends
+///   variables to terms of their sorts, under which each of its literals, as it is or turned, is one
+///   of the clause; the least number of one.
+/// - [`FoOutcome::Kept`].
+///
+/// The only error is want of memory.
+pub fn outcome(
+    alloc: Global,
+    syms: &[FoSym],
+    kept: &[FoClause],
+    clause: &FoClause,
+    weight: u32,
+    instance: &FoClause,
+) -> Result<FoOutcome, AllocError>
+    ensures { IfOk result (OutcomeOf syms.now kept.now weight instance.now clause.now) }
+{
+    if is_tautology(clause.lits.as_slice()) {
+        return Ok(FoOutcome::Tautology);
+    }
+    if lacks_room(kept, clause) {
+        return Ok(FoOutcome::Room);
+    }
+    if is_heavy(clause, weight, instance) {
+        return Ok(FoOutcome::Heavy);
+    }
+    match copied(kept, clause) {
+        Some(number) => Ok(FoOutcome::Copy(number)),
+        None => match subsuming(alloc, syms, kept, clause)? {
+            Some(number) => Ok(FoOutcome::Subsumed(number)),
+            None => Ok(FoOutcome::Kept),
+        },
+    }
+}

@@ -1,0 +1,6 @@
+pub mod Runs
+pub mod Books
+pub mod Refuting
+pub mod Formulas
+pub mod CallerLemmas
+pub mod Progress

@@ -1,0 +1,5 @@
+pub mod Machine
+pub mod Limits
+pub mod Books
+pub mod Inside
+pub mod Laws
