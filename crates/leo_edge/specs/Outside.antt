@@ -1,9 +1,11 @@
 -- What the traits of the outside say of their answers and of their counts of faults.
-use Rattle.std.specs.Prelude.{◌≡◌, ℕ, ◌+◌, ◌-◌, ◌^◌, ◌≤◌, min, List, ◌++◌, length, Option, IfSome}
+use Rattle.std.specs.Prelude.{◌≡◌, ℕ, ◌+◌, ◌-◌, ◌^◌, ◌≤◌, min, Bool, true, false, List, ◌++◌, length, Option, IfSome}
 use Rattle.leo_edge.specs.declared.outside.Fetched.{Fetched}
 use Rattle.leo_edge.specs.declared.outside.Fetched.TheVariants.{Got, Long, Failed, Memory}
 use Rattle.leo_edge.specs.declared.outside.Put.{Put}
 use Rattle.leo_edge.specs.declared.outside.Put.TheVariants as put
+use Rattle.leo_edge.specs.declared.outside.Next.{Next}
+use Rattle.leo_edge.specs.declared.outside.Next.TheVariants as next
 
 -- the count has risen, or stands at the last value of 64 bits
 abbrev pub HasRisen : ℕ → ℕ → Type 0
@@ -60,3 +62,27 @@ IfTook put.Failed P = Unit {0}
 abbrev pub OnNoneTaken : Put → Type 0 → Type 0
 OnNoneTaken (put.Took n) P = Unit {0}
 OnNoneTaken put.Failed P = P
+
+-- the fact holds of the number of bytes that were given
+abbrev pub IfGiven : Next → (ℕ → Type 0) → Type 0
+IfGiven (next.Got n) P = P n
+IfGiven next.End P = Unit {0}
+IfGiven next.Failed P = Unit {0}
+
+-- the fact holds unless bytes were given
+abbrev pub UnlessGiven : Next → Type 0 → Type 0
+UnlessGiven (next.Got n) P = Unit {0}
+UnlessGiven next.End P = P
+UnlessGiven next.Failed P = P
+
+-- the fact holds if the source failed
+abbrev pub OnNextFailed : Next → Type 0 → Type 0
+OnNextFailed (next.Got n) P = Unit {0}
+OnNextFailed next.End P = Unit {0}
+OnNextFailed next.Failed P = P
+
+-- the answer says that there are no more bytes
+abbrev pub is_end : Next → Bool
+is_end (next.Got n) = false
+is_end next.End = true
+is_end next.Failed = false

@@ -1,7 +1,7 @@
-//! What the prover asks of the outside: files to read, and a sink to write to.
-ghost use Rattle.std.specs.Prelude.{◌≡◌, ℕ, ◌<◌, ◌≤◌, List, ◌++◌, length, take, Option, Some, IfSome};
+//! What the provers ask of the outside: files to read, a sink to write to, and a source to read from.
+ghost use Rattle.std.specs.Prelude.{◌≡◌, ℕ, ◌<◌, ◌≤◌, Bool, true, ◌||◌, List, ◌++◌, length, take, Option, Some, IfSome};
 ghost use Rattle.std.specs.Option.{option_map};
-ghost use Rattle.leo_edge.specs.Outside.{HasRisen, Appends, OnGot, UnlessGot, OnLong, OnFailed, UnlessFailed, IfTook, OnNoneTaken};
+ghost use Rattle.leo_edge.specs.Outside.{HasRisen, Appends, OnGot, UnlessGot, OnLong, OnFailed, UnlessFailed, IfTook, OnNoneTaken, IfGiven, UnlessGiven, OnNextFailed, is_end};
 
 /// The answer of a fetch.
 #[derive(Clone, Copy, Debug, PartialEq, Eq)]
@@ -60,4 +60,36 @@ pub trait Sink {
         ensures took { IfTook result (λ n. (0 < n) × (n ≤ length piece.now) × (taken self.new ≡ option_map (λ bytes. bytes ++ take n piece.now) (taken self.old))) }
         ensures never_falls { faults self.old ≤ faults self.new }
         ensures failed { OnNoneTaken result (HasRisen (faults self.old) (faults self.new) × (taken self.new ≡ taken self.old)) };
+}
+
+/// The answer of a source.
+#[derive(Clone, Copy, Debug, PartialEq, Eq)]
+pub enum Next {
+    /// So many bytes were put at the front of the buffer.
+    Got(usize),
+    /// There are no more bytes.
+    End,
+    /// None was given.
+    Failed,
+}
+
+/// A source of bytes. A count of faults tells each failure; it stops at the last value of 64 bits.
+pub trait Source {
+    // the bytes given so far, where they are told
+    ghost given: { Self → Option (List ℕ) };
+    // it has answered that there are no more bytes
+    ghost has_ended: { Self → Bool };
+
+    ghost faults: { Self → ℕ };
+
+    /// Puts at least one byte at the front of the buffer. Once it has answered `End`, it always does.
+    fn next(&mut self, buf: &mut [u8]) -> Next
+        requires { 0 < length buf.old }
+        ensures got { IfGiven result (λ n. (0 < n) × (n ≤ length buf.old) × (given self.new ≡ option_map (λ bytes. bytes ++ take n buf.new) (given self.old))) }
+        ensures none_given { UnlessGiven result (given self.new ≡ given self.old) }
+        ensures same_length { length buf.new ≡ length buf.old }
+        ensures ended { has_ended self.new ≡ (has_ended self.old || is_end result) }
+        ensures stays_ended { has_ended self.old ≡ true → result ≡ Next.End }
+        ensures never_falls { faults self.old ≤ faults self.new }
+        ensures failed { OnNextFailed result (HasRisen (faults self.old) (faults self.new)) };
 }

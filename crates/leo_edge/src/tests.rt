@@ -1,4 +1,7 @@
-use crate::{Fetched, Files, HostFiles, HostOut, MemFiles, MemSink, Put, Sink, Words};
+use crate::{
+    Fetched, Files, HostFiles, HostIn, HostOut, MemFiles, MemSink, MemSource, Next, Put, Sink,
+    Source, Words,
+};
 use std::alloc::{AllocError, Global};
 use std::test::Fail;
 
@@ -74,5 +77,32 @@ fn the_host_has_no_such_file(rt: HostRuntime) -> Result<(), Fail> {
 fn the_host_takes_output(rt: HostRuntime) -> Result<(), Fail> {
     let mut out = HostOut::new(rt.clone()?);
     assert_eq!(rt; out.put(b"\n"), Put::Took(1));
+    Ok(())
+}
+
+#[test]
+fn memory_source_gives_parts_and_fails(rt: HostRuntime) -> Result<(), Fail> {
+    let mut source = MemSource::new(rt.alloc(), b"abcde")?;
+    source.at_most = 2;
+    source.failing.push(2)?;
+    let mut buffer = [0u8; 3];
+    assert_eq!(rt; source.next(&mut buffer), Next::Got(2));
+    assert_eq!(rt; source.next(&mut buffer), Next::Failed);
+    source.at_most = 9;
+    assert_eq!(rt; source.next(&mut buffer), Next::Got(3));
+    assert_eq!(rt; buffer.as_slice(), b"cde".as_slice());
+    source.failing.push(4)?;
+    assert_eq!(rt; source.next(&mut buffer), Next::End);
+    assert_eq!(rt; source.next(&mut buffer), Next::End);
+    assert_eq!(rt; source.faults, 1);
+    Ok(())
+}
+
+#[test]
+fn the_host_gives_input(rt: HostRuntime) -> Result<(), Fail> {
+    let mut source = HostIn::new(rt.stdin());
+    let mut buffer = [0u8; 8];
+    assert_eq!(rt; source.next(&mut buffer), Next::End);
+    assert_eq!(rt; source.next(&mut buffer), Next::End);
     Ok(())
 }
