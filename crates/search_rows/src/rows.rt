@@ -1,12 +1,15 @@
 //! Problems, with the options of the prover.
 
-/// The options of a call, its file, and the text of the file `x.p`.
+/// The options of a call, its file, and the text of the file `x.p`; the file `axioms.p` has [`AXIOMS`].
 pub(crate) struct Row {
     pub(crate) title: &'static str,
     pub(crate) options: &'static [&'static str],
     pub(crate) file: &'static str,
     pub(crate) problem: &'static [u8],
 }
+
+/// Declares p and assumes p.
+pub(crate) const AXIOMS: &[u8] = b"thf(p_type,type,p: $o).\nthf(a,axiom,p).\n";
 
 /// Declares p, assumes p and conjectures p.
 const PLAIN: &[u8] = b"thf(p_type,type,p: $o).\nthf(a,axiom,p).\nthf(c,conjecture,p).\n";
@@ -136,6 +139,18 @@ pub(crate) const ROWS: &[Row] = &[
         options: &["--turns", "1"],
         file: "gen:3",
         problem: b"",
+    },
+    Row {
+        title: "names in quotes",
+        options: &[],
+        file: "x.p",
+        problem: b"thf('a type',type,'it\\'s so': $o).\nthf('back\\\\slash',axiom,'it\\'s so').\nthf('C',conjecture,'it\\'s so').\n",
+    },
+    Row {
+        title: "an axiom of another file",
+        options: &[],
+        file: "x.p",
+        problem: b"include('axioms.p').\nthf(c,conjecture,p).\n",
     },
     Row {
         title: "a file that is not there",

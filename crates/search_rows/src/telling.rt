@@ -1,6 +1,6 @@
 //! One row for one call: the answer, and what the checker says of its derivation.
 
-use crate::rows::Row;
+use crate::rows::{AXIOMS, Row};
 use leo_edge::{MemFiles, MemSink, Words};
 use leo_top::{Status, check_proof, leo3_alone};
 use std::alloc::{AllocError, Global};
@@ -25,10 +25,11 @@ fn checker_words(alloc: Global, row: &Row) -> Result<Words, AllocError> {
     Ok(words)
 }
 
-/// The file of a row, with a derivation beside it.
+/// The files of a row, with a derivation beside them.
 fn files_with(alloc: Global, row: &Row, derivation: &[u8]) -> Result<MemFiles, AllocError> {
     let mut files = MemFiles::new(alloc);
     files.add("x.p", row.problem)?;
+    files.add("axioms.p", AXIOMS)?;
     files.add("d.s", derivation)?;
     Ok(files)
 }
