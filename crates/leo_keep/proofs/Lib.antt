@@ -12,3 +12,4 @@ mod Clauses
 mod Admitting
 mod Joining
 mod Matched
+mod Sending

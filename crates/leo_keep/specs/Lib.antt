@@ -3,3 +3,4 @@ pub mod Subsumption
 pub mod Outcomes
 pub mod Laws
 pub mod Matching
+pub mod Heads

@@ -2,11 +2,13 @@
 
 ghost use Rattle.std.specs.Prelude.{◌≡◌, ◌<◌, ◌≤◌, ◌⊎◌, length, map, IfOk, MatchOption};
 ghost use Rattle.std.specs.Bool.{Decides};
-ghost use Rattle.leo_clause.specs.Trees.{clause_at};
-ghost use Rattle.leo_clause.specs.Typed.{IsTypedIn, IsClauseOf};
+ghost use Rattle.leo_clause.specs.Trees.{clause_at, literal_at};
+ghost use Rattle.leo_clause.specs.Typed.{AreLiteralsOf, IsTypedIn, IsClauseOf};
+ghost use Rattle.leo_keep.specs.Heads.{HaveHeads};
 ghost use Rattle.leo_keep.specs.Subsumption.{Subsumes};
 ghost use Rattle.leo_keep.specs.Outcomes.{AreTypedIn, HoldsOfNone, IsHeavy, IsLeast, LacksRoom, OutcomeOf};
 
+use crate::heads::{heads_of, may_send};
 use crate::kept::Kept;
 use crate::outcomes::Outcome;
 use crate::subsuming::subsumes;
@@ -81,6 +83,27 @@ fn copied(bank: &Bank, kept: &[Clause], c: &Clause) -> Option<u32>
     None
 }
 
+/// Whether a clause subsumes another, of which the heads are these.
+fn subsumes_with(
+    alloc: Global,
+    bank: &Bank,
+    clause: &Clause,
+    other: &Clause,
+    heads: &[Lit],
+) -> Result<bool, AllocError>
+    requires typed { IsTypedIn bank.now clause.now }
+    requires other_typed { IsTypedIn bank.now other.now }
+    requires heads { HaveHeads bank.now (map (literal_at bank.now) other.now.lits) heads.now }
+    requires heads_of { AreLiteralsOf bank.now heads.now }
+    ensures { IfOk result (λ b. Decides b (Subsumes (clause_at bank.now clause.now) (clause_at bank.now other.now))) }
+{
+    if !may_send(bank, clause.lits.as_slice(), heads) {
+        return Ok(false);
+    }
+    let found = subsumes(alloc, bank, clause, other)?;
+    Ok(found)
+}
+
 /// The least number of a kept clause that subsumes the clause.
 fn subsuming(
     alloc: Global,
@@ -93,8 +116,9 @@ fn subsuming(
     requires clause { IsTypedIn bank.now c.now }
     ensures { IfOk result (λ o. MatchOption o (HoldsOfNone (λ k. Subsumes k (clause_at bank.now c.now)) (map (clause_at bank.now) kept.now)) (IsLeast (λ k. Subsumes k (clause_at bank.now c.now)) (map (clause_at bank.now) kept.now))) }
 {
+    let heads = heads_of(alloc, bank, c.lits.as_slice())?;
     for number in 0..kept.len() {
-        let found = subsumes(alloc, bank, &kept[number], c)?;
+        let found = subsumes_with(alloc, bank, &kept[number], c, heads.as_slice())?;
         if found {
             return Ok(Some(number as u32));
         }

@@ -2,6 +2,7 @@
 #![tactic(auto)]
 
 mod deciding;
+mod heads;
 mod kept;
 pub mod laws;
 mod matching;

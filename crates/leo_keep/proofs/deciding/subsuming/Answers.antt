@@ -5,8 +5,8 @@ use Rattle.leo_keep.proofs.Numbers.{get-index, none-next, refuted}
 use Rattle.leo_keep.proofs.Clauses.{least-at, none-of, typed-at}
 use Rattle.leo_keep.proofs.deciding.subsuming.Goals as goal
 
-pub subsumes-requires-clause-typed : goal.subsumes-requires-clause-typed
-subsumes-requires-clause-typed c = (typed-at c.args.bank.now c.args.kept.now c.requires.kept c.loop-number.number c.index-kept-number.result (get-index c.args.kept.now c.loop-number.number c.index-kept-number.result c.loop-number-test.true c.index-kept-number.is))
+pub subsumes_with-requires-clause-typed : goal.subsumes_with-requires-clause-typed
+subsumes_with-requires-clause-typed c = (typed-at c.args.bank.now c.args.kept.now c.requires.kept c.loop-number.number c.index-kept-number.result (get-index c.args.kept.now c.loop-number.number c.index-kept-number.result c.loop-number-test.true c.index-kept-number.is))
 
 pub returns-then-found : goal.returns-then-found
 returns-then-found c =
