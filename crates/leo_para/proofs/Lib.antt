@@ -12,3 +12,4 @@ mod Joined
 mod Stepping
 mod Listing
 mod Adding
+mod Passing

@@ -6,5 +6,6 @@ pub mod Laws
 pub mod Reading
 pub mod Truths
 pub mod Found
+pub mod Meeting
 pub mod Dues
 pub mod Concluding

@@ -5,6 +5,7 @@ mod concluding;
 mod due;
 mod heads;
 pub mod laws;
+mod meeting;
 mod member;
 mod moving;
 mod paramodulation;

@@ -10,6 +10,7 @@ ghost use Rattle.leo_para.specs.Concluding.{AreDone, AreReady};
 
 use crate::concluding::due_of;
 use crate::due::{Found, members};
+use crate::meeting::may_meet;
 use crate::member::Due;
 use crate::moving::moved_lits;
 use leo_clause::{Clause, Lit};
@@ -72,6 +73,9 @@ pub fn para(
     ensures grows { Extends bank.old bank.new }
 {
     bank.is_sound();
+    if !may_meet(bank, from, into) {
+        return Ok(Items::new(alloc));
+    }
     let found = members(alloc, bank, from, into)?;
     if found.is_empty() {
         return Ok(Items::new(alloc));

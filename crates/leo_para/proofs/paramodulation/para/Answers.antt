@@ -1,5 +1,5 @@
 use Rattle.std.proofs.Common.{length, ◌∙◌, ap}
-use Rattle.leo_terms.proofs.CallerLemmas.{extends-trans}
+use Rattle.leo_terms.proofs.CallerLemmas.{extends-itself, extends-trans}
 use Rattle.leo_kernel.proofs.Growing.{lits-grow, types-grow}
 use Rattle.leo_para.proofs.Listing.{declared-later, due-whole, ready}
 use Rattle.leo_para.proofs.paramodulation.para.Goals as goal
@@ -30,3 +30,6 @@ returns-clause-due c = due-whole c.members.ensures.grows c.moved_lits.ensures.gr
 
 pub returns-clause-grows : goal.returns-clause-grows
 returns-clause-grows c = extends-trans (extends-trans c.members.ensures.grows c.moved_lits.ensures.grows) c.dues_of.ensures.grows
+
+pub returns-then-not-may_meet-clause-grows : goal.returns-then-not-may_meet-clause-grows
+returns-then-not-may_meet-clause-grows c = extends-itself c.is_sound.ensures.sound
