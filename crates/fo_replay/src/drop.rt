@@ -84,8 +84,12 @@ fn are_alike(
     }
 }
 
-/// The conclusion of factoring.
-pub(crate) fn factored(
+/// The conclusion of factoring, however heavy it is: None where there is none.
+///
+/// # Errors
+///
+/// Want of memory.
+pub fn factored(
     alloc: Global,
     syms: &[FoSym],
     clauses: &[FoClause],

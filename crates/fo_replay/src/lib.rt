@@ -2,9 +2,9 @@
 #![tactic(auto)]
 
 mod copies;
-mod drop;
+pub mod drop;
 mod instance;
-mod para;
+pub mod para;
 mod places;
 pub mod replay;
 mod sorts;

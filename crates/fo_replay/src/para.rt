@@ -76,7 +76,11 @@ fn moved_literal(alloc: Global, literal: &FoLit, by: u32) -> Result<FoLit, Alloc
 }
 
 /// The literals of a clause with their variables numbered after so many others.
-fn moved_literals(alloc: Global, clause: &FoClause, by: u32) -> Result<Items<FoLit>, AllocError>
+///
+/// # Errors
+///
+/// Want of memory, also where a number would be no `u32`.
+pub fn moved_literals(alloc: Global, clause: &FoClause, by: u32) -> Result<Items<FoLit>, AllocError>
     ensures { IfOk result (λ ls. ls ≡ moved by clause.now) }
 {
     let mut list = Items::new(alloc);
@@ -264,8 +268,12 @@ fn from_into(
     }
 }
 
-/// The conclusion of paramodulation.
-pub(crate) fn paramodulated(
+/// The conclusion of paramodulation, however heavy it is: None where there is none.
+///
+/// # Errors
+///
+/// Want of memory, also where the conclusion would have more variables than a `u32` counts.
+pub fn paramodulated(
     alloc: Global,
     syms: &[FoSym],
     clauses: &[FoClause],

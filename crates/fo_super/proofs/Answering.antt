@@ -51,3 +51,13 @@ none-next P xs n x h e f i y l g p =
 
 pub none-all : {X : Type 0} (P : X → Type 0) (xs : List X) (n : ℕ) → NoneBelow P xs n → length xs ≤ n → (i : ℕ) (x : X) → slice_get xs i ≡ Some x → P x → ⊥
 none-all P xs n h l i x e p = h i x (let k = get-within xs i x e in omega arith) e p
+
+-- a second test beside one that holds
+pub decides-too : {P Q : Type 0} (b r : Bool) → Decides b Q → b ≡ true → Decides r P → Decides r (P × Q)
+decides-too b r d e f = (λ t. (f.0 t, d.0 e), λ h. f.1 h.0)
+
+pub decides-both : {P Q : Type 0} (b r : Bool) → Decides b P → b ≡ true → Decides r Q → Decides r (P × Q)
+decides-both b r d e f = (λ t. (d.0 e, f.0 t), λ h. f.1 h.1)
+
+pub not-both : {P Q : Type 0} (b : Bool) → Decides b P → b ≡ false → Decides false (P × Q)
+not-both b d e = no (λ h. refuted b d e h.0)

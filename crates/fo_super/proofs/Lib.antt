@@ -19,3 +19,15 @@ mod Gathering
 mod Instances
 mod Resolved
 mod Due
+mod Walking
+mod Sifted
+mod Never
+mod Sorted
+mod Fronts
+mod Works
+mod Choosing
+mod Turned
+mod Weighing
+mod Worked
+mod Replaying
+mod Singular

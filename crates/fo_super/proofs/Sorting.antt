@@ -12,7 +12,7 @@ use Rattle.fo_super.specs.Outcomes.{HasSameSorts, HaveSameSorts, HasLiteralSameS
 use Rattle.fo_super.proofs.Answering.{same-item, get-within}
 
 -- a fact about each item
-all-both : {X : Type 0} (P : X → Type 0) (xs ys : List X) → AllByRecursion P xs → AllByRecursion P ys → AllByRecursion P (xs ++ ys)
+pub all-both : {X : Type 0} (P : X → Type 0) (xs ys : List X) → AllByRecursion P xs → AllByRecursion P ys → AllByRecursion P (xs ++ ys)
 all-both P [] ys h k = k
 all-both P (x ∷ xs) ys h k = (h.0, all-both P xs ys h.1 k)
 

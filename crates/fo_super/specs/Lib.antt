@@ -8,3 +8,10 @@ pub mod Numbering
 pub mod Members
 pub mod Conclusions
 pub mod Turns
+pub mod Viewing
+pub mod Passives
+pub mod Runs
+pub mod Sifting
+pub mod Walks
+pub mod Working
+pub mod Replaying

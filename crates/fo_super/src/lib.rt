@@ -2,22 +2,34 @@
 #![tactic(auto)]
 
 pub mod applying;
+mod candidates;
 pub mod conditions;
 pub mod deciding;
+pub mod factoring;
 pub mod identity;
 pub mod images;
 pub mod laws;
 pub mod literals;
 mod matching;
+pub mod member;
+#[cfg(test)]
+mod member_tests;
 pub mod members;
 mod nodes;
 pub mod numbering;
 pub mod outcomes;
 pub mod resolving;
+mod sites;
+pub mod state;
 pub mod subsuming;
+pub mod superposing;
 pub mod tautologies;
 mod terms;
 #[cfg(test)]
 mod tests;
+#[cfg(test)]
+mod turn_tests;
+pub mod turning;
 pub mod typing;
 pub mod weights;
+mod working;

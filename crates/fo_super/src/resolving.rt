@@ -1,6 +1,6 @@
 //! A clause resolved on a literal.
 
-ghost use Rattle.std.specs.Prelude.{◌≡◌, ◌<◌, ◌++◌, ℕ, length, remove, map, List, IfOk, MatchOption, slice_get, Some};
+ghost use Rattle.std.specs.Prelude.{◌≡◌, ◌<◌, ◌++◌, ◌∷◌, [], ℕ, length, remove, map, List, IfOk, MatchOption, slice_get, Some};
 ghost use Rattle.std.specs.Bool.{Decides};
 ghost use Rattle.std.specs.List.{AllByRecursion};
 ghost use Rattle.fo_terms.specs.Terms.{Terms};
@@ -24,6 +24,7 @@ use fo_terms::unify::unify;
 use fo_text::problem::{FoClause, FoLit, FoSym};
 use sqlite_items::Items;
 use std::alloc::{AllocError, Global};
+use std::slice;
 
 /// A clause resolved on a literal: the terms of the instance, that instance, and the conclusion.
 #[derive(Drop)]
@@ -41,7 +42,7 @@ struct Numbered {
 }
 
 /// How many variables a clause has.
-fn variables_of(clause: &FoClause) -> Result<u32, AllocError>
+pub(crate) fn variables_of(clause: &FoClause) -> Result<u32, AllocError>
     ensures { IfOk result (λ n. n ≡ length clause.now.vars) }
 {
     let count = clause.vars.len();
@@ -123,7 +124,7 @@ fn sorts_of(
 }
 
 /// Whether a clause is within the limits of a line.
-fn is_light(clause: &FoClause) -> bool
+pub(crate) fn is_light(clause: &FoClause) -> bool
     ensures { Decides result (IsLight clause.now) }
 {
     if clause.lits.len() > 1000 {
@@ -252,5 +253,20 @@ pub fn resolved(
     let pairs = unifier.pairs.as_slice();
     let numbered = numbered_images(alloc, syms, clause, place as usize, pairs)?;
     let found = concluded(alloc, sorts, syms, clause, place as usize, numbered)?;
+    Ok(found)
+}
+
+/// The same of a clause that stands alone.
+pub(crate) fn resolved_alone(
+    alloc: Global,
+    sorts: u32,
+    syms: &[FoSym],
+    clause: &FoClause,
+    place: u32,
+) -> Result<Option<FoResolved>, AllocError>
+    requires { AreSorted syms.now (clause.now ∷ []) 0 }
+    ensures { IfOk result (λ o. MatchOption o ((vars : List ℕ) (terms : Terms) (i d : FoClause) → IsResolved sorts syms.now (clause.now ∷ []) 0 place vars terms i d → ⊥) (λ r. IsResolved sorts syms.now (clause.now ∷ []) 0 place r.instance.vars (as_terms r.terms) r.instance r.conclusion)) }
+{
+    let found = resolved(alloc, sorts, syms, slice::from_ref(clause), 0, place)?;
     Ok(found)
 }
