@@ -64,12 +64,12 @@ resolved-sorted sorts syms clauses c k vars terms i d sorted h =
     subst (λ (x : FoClause). AllByRecursion (IsLiteral x.vars syms) x.lits) (sym h.conclusion_is) (remove-all (IsLiteral vars syms) (map (applied_literal (images terms)) h.clause.lits) k all)
 
 -- what is due from sorted clauses is sorted
-pub due-sorted : (sorts : ℕ) (syms : List FoSym) (clauses : List FoClause) (m : Member) (vars : List ℕ) (terms : Terms) (i d : FoClause) → ((n : ℕ) → AreSorted syms clauses n) → IsDue sorts syms clauses m vars terms i d → AllByRecursion (IsLiteral d.vars syms) d.lits
-due-sorted sorts syms clauses (resolve c k) vars terms i d sorted h = resolved-sorted sorts syms clauses c k vars terms i d (sorted c) h.resolved
+pub due-sorted : (sorts : ℕ) (syms : List FoSym) (clauses : List FoClause) (m : Member) (vars : List ℕ) (terms : Terms) (i d : FoClause) → NamesSorted syms clauses m → IsDue sorts syms clauses m vars terms i d → AllByRecursion (IsLiteral d.vars syms) d.lits
+due-sorted sorts syms clauses (resolve c k) vars terms i d sorted h = resolved-sorted sorts syms clauses c k vars terms i d sorted h.resolved
 due-sorted sorts syms clauses (factor c k s j r) vars terms i d sorted h =
-    resolved-sorted sorts syms (h.factored ∷ []) 0 _ vars terms i d (factor-sorted syms clauses c k j _ h.factored (sorted c) h.factor.gives) h.resolved
+    resolved-sorted sorts syms (h.factored ∷ []) 0 _ vars terms i d (factor-sorted syms clauses c k j _ h.factored sorted h.factor.gives) h.resolved
 due-sorted sorts syms clauses (superpose c k s e j r path) vars terms i d sorted h =
-    resolved-sorted sorts syms (h.replaced ∷ []) 0 _ vars terms i d (para-sorted syms clauses c k s e j r path h.replaced (sorted c) (sorted e) h.para.gives) h.resolved
+    resolved-sorted sorts syms (h.replaced ∷ []) 0 _ vars terms i d (para-sorted syms clauses c k s e j r path h.replaced sorted.0 sorted.1 h.para.gives) h.resolved
 
 pub fit-sorted : (syms : List FoSym) (clauses : List FoClause) → AllByRecursion (IsFit syms) clauses → (n : ℕ) → AreSorted syms clauses n
 fit-sorted syms clauses h n clause e = let f : IsFit syms clause = all-at (IsFit syms) clauses h n clause e in f.sorted
@@ -99,7 +99,7 @@ module _ (p : FoProblem) where
   works-fit (passed f w) h = works-fit w h
   works-fit (refused vars terms i c o due out n w) h = works-fit w h
   works-fit {ms} {cs} (kept {m} vars terms i c due out w) h =
-      works-fit w (all-both (IsFit p.syms) cs (c ∷ []) h (record { few = kept-few p.syms cs p.weight i c out; sorted = due-sorted p.sorts p.syms cs m vars terms i c (fit-sorted p.syms cs h) due }, tt))
+      works-fit w (all-both (IsFit p.syms) cs (c ∷ []) h (record { few = kept-few p.syms cs p.weight i c out; sorted = due-sorted p.sorts p.syms cs m vars terms i c (names-sorted p.syms cs m h) due }, tt))
 
   pub works-few : {ms : List Member} {cs ds : List FoClause} {os qs : List Origin} → Works p ms cs os ds qs → length cs ≤ most_number → length ds ≤ most_number
   works-few done h = h

@@ -1,9 +1,11 @@
 -- The lines of a member, replayed one after the other.
 use Rattle.std.specs.Prelude.{ℕ, ◌≡◌, List, [], ◌∷◌, ◌++◌, length, Some, slice_get}
+use Rattle.std.specs.List.{AllByRecursion}
 use Rattle.fo_terms.specs.Terms.{Terms}
 use Rattle.fo_text.specs.declared.problem.FoSym.{FoSym}
 use Rattle.fo_text.specs.declared.problem.FoClause.{FoClause}
 use Rattle.fo_text.specs.declared.answer.FoStep.{FoStep}
+use Rattle.fo_text.specs.Problems.{IsLiteral}
 use Rattle.fo_replay.specs.Replays.{Replays}
 use Rattle.fo_super.specs.Members.{Member, resolve, factor, superpose}
 use Rattle.fo_super.specs.Conclusions.{IsDue, lines}
@@ -40,3 +42,8 @@ pub record HaveOneConclusion (xs ys : List ℕ) (ts us : Terms) (i j d e : FoCla
 -- a member has one conclusion
 abbrev pub MembersAreUnique : Type 0
 MembersAreUnique = (sorts : ℕ) (syms : List FoSym) (clauses : List FoClause) (xs ys : List ℕ) (ts us : Terms) (i d j e : FoClause) (m : Member) → NamesSorted syms clauses m → IsDue sorts syms clauses m xs ts i d → IsDue sorts syms clauses m ys us j e → HaveOneConclusion xs ys ts us i j d e
+
+-- both sides of each literal of the conclusion of a member over such clauses have one sort
+abbrev pub MembersSort : Type 0
+MembersSort = (sorts : ℕ) (syms : List FoSym) (clauses : List FoClause) (m : Member) (vars : List ℕ) (terms : Terms) (instance conclusion : FoClause) → NamesSorted syms clauses m →
+    IsDue sorts syms clauses m vars terms instance conclusion → AllByRecursion (IsLiteral conclusion.vars syms) conclusion.lits

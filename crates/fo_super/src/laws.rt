@@ -1,6 +1,6 @@
 //! The laws, each a clause of a function that does nothing.
 
-ghost use Rattle.fo_super.specs.Replaying.{MembersAreUnique, MembersReplay};
+ghost use Rattle.fo_super.specs.Replaying.{MembersAreUnique, MembersReplay, MembersSort};
 ghost use Rattle.fo_super.specs.Laws.{ConclusionsReplay, InstancesReplay, NumbersByOccurrence, OutcomesAreUnique, RenumberedUnifiersAreGeneral, ResolutionsAreUnique};
 
 /// A clause has one outcome.
@@ -25,8 +25,10 @@ pub fn resolution_laws()
 {}
 
 /// A member that is due has one conclusion. Its lines replay, one after the other, behind any clauses
-/// among which those that it names stand; the last two give the instance and the conclusion.
+/// among which those that it names stand; the last two give the instance and the conclusion, of which
+/// both sides of each literal have one sort.
 pub fn member_laws()
     ensures unique { MembersAreUnique }
     ensures replay { MembersReplay }
+    ensures sorted { MembersSort }
 {}

@@ -12,8 +12,6 @@ pub mod laws;
 pub mod literals;
 mod matching;
 pub mod member;
-#[cfg(test)]
-mod member_tests;
 pub mod members;
 mod nodes;
 pub mod numbering;

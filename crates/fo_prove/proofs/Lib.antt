@@ -1,0 +1,11 @@
+mod Taking
+mod EndLines
+mod Closing
+mod Lining
+mod Beating
+mod Working
+mod Deriving
+mod Finishing
+mod Origins
+mod Replaying
+mod Refuting

@@ -1,0 +1,9 @@
+pub mod Reading
+pub mod Writing
+pub mod Refutations
+pub mod Marks
+pub mod Derived
+pub mod Answers
+pub mod Proving
+pub mod Endings
+pub mod Replayed
