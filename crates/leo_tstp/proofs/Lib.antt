@@ -7,3 +7,6 @@ pub mod Worded
 pub mod Learned
 pub mod Stepped
 pub mod Problems
+pub mod Ahead
+pub mod Placing
+pub mod Typing

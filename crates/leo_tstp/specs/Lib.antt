@@ -12,3 +12,8 @@ pub mod NewSymbols
 pub mod Read
 pub mod Built
 pub mod Known
+pub mod Spelled
+pub mod Ahead
+pub mod Places
+pub mod Shapes
+pub mod RuleWords

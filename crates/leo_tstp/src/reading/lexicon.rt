@@ -1,11 +1,12 @@
 //! The words of a problem's base types and symbols, with what they stand for.
 
-ghost use Rattle.std.specs.Prelude.{◌<◌, length, OnOk, IfOk};
+ghost use Rattle.std.specs.Prelude.{◌≡◌, ◌<◌, length, OnOk, IfOk};
 ghost use Rattle.leo_terms.specs.Contents.{Contents, Extends};
 ghost use Rattle.leo_elab.specs.Table.{AreNamesOf};
 ghost use Rattle.leo_clause.specs.Typed.{AreTypesOf};
 ghost use Rattle.leo_tstp.specs.Built.{AreSymbolNumbers, IsNumbering};
 ghost use Rattle.leo_tstp.specs.Known.{IsKnown};
+ghost use Rattle.leo_tstp.specs.Places.{word_place};
 
 use crate::building::numbers::Numbers;
 use crate::reading::trees::{ROOM, TypeNode, Types};
@@ -22,6 +23,15 @@ pub(crate) struct Lexicon {
     pub(crate) types: IndexMap<Vec<u8>, usize>,
     pub(crate) symbols: IndexMap<Vec<u8>, usize>,
     pub(crate) symbol_types: Vec<usize>,
+}
+
+impl Lexicon {
+    /// The place of the base type that a word stands for.
+    pub(crate) fn type_named(&self, word: &[u8]) -> Option<usize>
+        ensures { result ≡ word_place self.now word.now }
+    {
+        self.types.get(word).copied()
+    }
 }
 
 /// The types and the symbols that were met in a bank, and the places of its base types.

@@ -1,7 +1,10 @@
 //! Lines and the type statements of symbols as they are read.
 
-ghost use Rattle.std.specs.Prelude.{IfOk};
+ghost use Rattle.std.specs.Prelude.{◌≡◌, [], ◌↔◌, IfOk, IsTrue, OnOk};
+ghost use Rattle.leo_tstp.specs.Ahead.{TakesWords, ahead_of};
+ghost use Rattle.leo_tstp.specs.Places.{GoesOn, TakesTyping};
 ghost use Rattle.leo_tstp.specs.Read.{IsLineRead};
+ghost use Rattle.leo_tstp.specs.Spelled.{line_head};
 
 use crate::reading::patterns::Pattern;
 use crate::reading::source::{Reader, is, number_behind};
@@ -28,7 +31,9 @@ pub(crate) fn new_name(alloc: Global, prefix: &[u8], number: usize) -> Result<Ne
 
 impl Reader<'_> {
     /// Whether the text has no token more.
-    pub(crate) fn is_done(&self) -> bool {
+    pub(crate) fn is_done(&self) -> bool
+        ensures { IsTrue result ↔ (ahead_of self.now ≡ []) }
+    {
         self.at >= self.tokens.len()
     }
 
@@ -69,7 +74,10 @@ impl Reader<'_> {
     }
 
     /// The type statement of a new symbol: its type.
-    pub(crate) fn typing(&mut self, new: &NewName) -> Result<usize, Stop> {
+    pub(crate) fn typing(&mut self, new: &NewName) -> Result<usize, Stop>
+        ensures takes { TakesTyping self.old new.now.statement.items new.now.name.items result self.new }
+        ensures goes { OnOk result (GoesOn self.old self.new) }
+    {
         self.take_all(&[b"thf", b"("])?;
         self.take(&new.statement)?;
         self.take_all(&[b",", b"type", b","])?;
@@ -91,7 +99,10 @@ impl Reader<'_> {
         Ok(ParsedLine { literals, rule })
     }
 
-    fn line_head(&mut self, number: usize) -> Result<(), Stop> {
+    fn line_head(&mut self, number: usize) -> Result<(), Stop>
+        ensures takes { TakesWords self.old (line_head number) result self.new }
+        ensures stays { self.new ≡ record self.old { at = self.new.at } }
+    {
         self.take_all(&[b"thf", b"("])?;
         self.take_numbered(b'l', number as u64)?;
         self.take_all(&[b",", b"plain", b","])

@@ -1,5 +1,12 @@
 //! Which types are looked for at a place.
 
+ghost use Rattle.std.specs.Prelude.{◌≡◌, true, IfNone, IfSome};
+ghost use Rattle.leo_q0.specs.Terms.{SimpleType, arrow};
+ghost use Rattle.leo_terms.specs.Contents.{IsShared};
+ghost use Rattle.leo_tstp.specs.declared.reading.lexicon.Lexicon.{Lexicon};
+ghost use Rattle.leo_tstp.specs.Places.{Fits, IsPlace};
+ghost use Rattle.leo_tstp.specs.Vocabulary.{Vocabulary};
+
 use crate::reading::trees::{TRUTH, TypeNode, Types};
 
 /// Which types fit: all, one, or those of functions of which both parts fit.
@@ -11,7 +18,10 @@ pub(crate) enum Pattern<'a> {
 }
 
 /// The types that are looked for in the parts of a type of functions, if there is one that fits.
-pub(crate) fn parts<'a>(types: &Types, pattern: Pattern<'a>) -> Option<(Pattern<'a>, Pattern<'a>)> {
+pub(crate) fn parts<'a>(types: &Types, pattern: Pattern<'a>) -> Option<(Pattern<'a>, Pattern<'a>)>
+    ensures found { (v : Vocabulary) (l : Lexicon) (a b : SimpleType) → Fits v l types.now.nodes.keys pattern.entry (arrow a b) → IfNone result ⊥ }
+    ensures fit { (v : Vocabulary) (l : Lexicon) (a b : SimpleType) → IsShared types.now.nodes.keys → Fits v l types.now.nodes.keys pattern.entry (arrow a b) → IfSome result (λ p. Fits v l types.now.nodes.keys p.0 a × Fits v l types.now.nodes.keys p.1 b) }
+{
     match pattern {
         Pattern::Any => Some((Pattern::Any, Pattern::Any)),
         Pattern::Type(ty) => match types.node(ty) {
@@ -23,7 +33,9 @@ pub(crate) fn parts<'a>(types: &Types, pattern: Pattern<'a>) -> Option<(Pattern<
 }
 
 /// Whether a type fits. Patterns stand in one another as brackets do, so that `room` levels are enough.
-pub(crate) fn fits(types: &Types, pattern: &Pattern<'_>, ty: usize) -> bool {
+pub(crate) fn fits(types: &Types, pattern: &Pattern<'_>, ty: usize) -> bool
+    ensures { (v : Vocabulary) (l : Lexicon) (a : SimpleType) → IsShared types.now.nodes.keys → IsPlace v l types.now.nodes.keys a ty → Fits v l types.now.nodes.keys pattern.now a → result ≡ true }
+{
     match pattern {
         Pattern::Any => true,
         Pattern::Type(wanted) => *wanted == ty,

@@ -1,7 +1,11 @@
 //! Rules as they are read.
 
-ghost use Rattle.std.specs.Prelude.{IfOk};
+ghost use Rattle.std.specs.Prelude.{◌≡◌, ◌<◌, ◌^◌, ◌∷◌, List, ℕ, Option, Some, None, IfOk, IfSome, codes};
+ghost use Rattle.std.specs.Prelude as spec;
+ghost use Rattle.leo_clause.specs.declared.record.Rule.TheVariants as record_of;
+ghost use Rattle.leo_tstp.specs.declared.reading.trees.ParsedRule.TheVariants as parsed;
 ghost use Rattle.leo_tstp.specs.Read.{IsRuleRead};
+ghost use Rattle.leo_tstp.specs.RuleWords.{PassesWords, Reads, end_then, line_word, literal_and_then, middle_then, no_parent_then, one_literal_then, one_parent_then, parent_and_then, two_parents_then};
 
 use crate::reading::patterns::Pattern;
 use crate::reading::source::{Reader, is};
@@ -172,7 +176,9 @@ impl Reader<'_> {
     }
 
     fn conversion(&mut self) -> Result<ParsedRule, Stop>
-        ensures { IfOk result IsRuleRead }
+        ensures read { IfOk result IsRuleRead }
+        ensures takes { (p : ℕ) (rest : List (List ℕ)) → p < 2 ^ 64 → Reads self.old (one_parent_then p rest) result (parsed.Plain (record_of.Convert p)) self.new rest }
+        ensures stays { self.new ≡ record self.old { at = self.new.at } }
     {
         let parent = self.one_parent()?;
         Ok(ParsedRule::Plain(Rule::Convert { parent }))
@@ -250,7 +256,10 @@ impl Reader<'_> {
         Ok((lit, side))
     }
 
-    fn literal_number(&mut self) -> Result<u32, Stop> {
+    fn literal_number(&mut self) -> Result<u32, Stop>
+        ensures takes { (i : ℕ) (rest : List (List ℕ)) → i < 2 ^ 32 → Reads self.old (spec.decimal i ∷ rest) result i self.new rest }
+        ensures stays { self.new ≡ record self.old { at = self.new.at } }
+    {
         let number = self.take_number(u64::from(u32::MAX))?;
         u32::try_from(number).map_err(|_| Stop::Refused)
     }
@@ -285,14 +294,19 @@ impl Reader<'_> {
     }
 
     fn arrangement(&mut self) -> Result<ParsedRule, Stop>
-        ensures { IfOk result IsRuleRead }
+        ensures read { IfOk result IsRuleRead }
+        ensures takes { (p : ℕ) (rest : List (List ℕ)) → p < 2 ^ 64 → Reads self.old (one_parent_then p rest) result (parsed.Plain (record_of.Arrange p)) self.new rest }
+        ensures stays { self.new ≡ record self.old { at = self.new.at } }
     {
         let parent = self.one_parent()?;
         Ok(ParsedRule::Plain(Rule::Arrange { parent }))
     }
 
     /// A literal's number in brackets.
-    fn one_literal(&mut self) -> Result<u32, Stop> {
+    fn one_literal(&mut self) -> Result<u32, Stop>
+        ensures takes { (i : ℕ) (rest : List (List ℕ)) → i < 2 ^ 32 → Reads self.old (one_literal_then i rest) result i self.new rest }
+        ensures stays { self.new ≡ record self.old { at = self.new.at } }
+    {
         self.take(b"(")?;
         let lit = self.literal_number()?;
         self.take(b")")?;
@@ -300,7 +314,9 @@ impl Reader<'_> {
     }
 
     fn dropped(&mut self) -> Result<ParsedRule, Stop>
-        ensures { IfOk result IsRuleRead }
+        ensures read { IfOk result IsRuleRead }
+        ensures takes { (p i : ℕ) (rest : List (List ℕ)) → p < 2 ^ 64 → i < 2 ^ 32 → Reads self.old (one_literal_then i (one_parent_then p rest)) result (parsed.Plain (record_of.Drop p i)) self.new rest }
+        ensures stays { self.new ≡ record self.old { at = self.new.at } }
     {
         let lit = self.one_literal()?;
         let parent = self.one_parent()?;
@@ -308,7 +324,9 @@ impl Reader<'_> {
     }
 
     fn decomposed(&mut self) -> Result<ParsedRule, Stop>
-        ensures { IfOk result IsRuleRead }
+        ensures read { IfOk result IsRuleRead }
+        ensures takes { (p i : ℕ) (rest : List (List ℕ)) → p < 2 ^ 64 → i < 2 ^ 32 → Reads self.old (one_literal_then i (one_parent_then p rest)) result (parsed.Plain (record_of.Decompose p i)) self.new rest }
+        ensures stays { self.new ≡ record self.old { at = self.new.at } }
     {
         let lit = self.one_literal()?;
         let parent = self.one_parent()?;
@@ -316,7 +334,10 @@ impl Reader<'_> {
     }
 
     /// A literal's number behind a bracket, and the comma behind it.
-    fn literal_and(&mut self) -> Result<u32, Stop> {
+    fn literal_and(&mut self) -> Result<u32, Stop>
+        ensures takes { (i : ℕ) (rest : List (List ℕ)) → i < 2 ^ 32 → Reads self.old (literal_and_then i rest) result i self.new rest }
+        ensures stays { self.new ≡ record self.old { at = self.new.at } }
+    {
         self.take(b"(")?;
         let lit = self.literal_number()?;
         self.take(b",")?;
@@ -355,7 +376,9 @@ impl Reader<'_> {
     }
 
     fn value(&mut self) -> Result<ParsedRule, Stop>
-        ensures { IfOk result IsRuleRead }
+        ensures read { IfOk result IsRuleRead }
+        ensures takes { (p i : ℕ) (a : Option ℕ) (rest : List (List ℕ)) → p < 2 ^ 64 → i < 2 ^ 32 → IfSome a (λ q. q < 2 ^ 64) → Reads self.old (one_literal_then i (parent_and_then p a rest)) result (parsed.Plain (record_of.FuncExt p i a)) self.new rest }
+        ensures stays { self.new ≡ record self.old { at = self.new.at } }
     {
         let lit = self.one_literal()?;
         let (parent, abbr) = self.parent_and()?;
@@ -363,7 +386,9 @@ impl Reader<'_> {
     }
 
     fn factored(&mut self) -> Result<ParsedRule, Stop>
-        ensures { IfOk result IsRuleRead }
+        ensures read { IfOk result IsRuleRead }
+        ensures takes { (p i j : ℕ) (rest : List (List ℕ)) → p < 2 ^ 64 → i < 2 ^ 32 → j < 2 ^ 32 → Reads self.old (literal_and_then i (spec.decimal j ∷ codes ")" ∷ one_parent_then p rest)) result (parsed.Plain (record_of.Factor p i j)) self.new rest }
+        ensures stays { self.new ≡ record self.old { at = self.new.at } }
     {
         let first = self.literal_and()?;
         let second = self.literal_number()?;
@@ -377,37 +402,52 @@ impl Reader<'_> {
     }
 
     fn reflexivity(&mut self) -> Result<ParsedRule, Stop>
-        ensures { IfOk result IsRuleRead }
+        ensures read { IfOk result IsRuleRead }
+        ensures takes { (rest : List (List ℕ)) → Reads self.old (no_parent_then rest) result (parsed.Plain record_of.Refl) self.new rest }
+        ensures stays { self.new ≡ record self.old { at = self.new.at } }
     {
         self.no_parent()?;
         Ok(ParsedRule::Plain(Rule::Refl))
     }
 
     fn chosen(&mut self) -> Result<ParsedRule, Stop>
-        ensures { IfOk result IsRuleRead }
+        ensures read { IfOk result IsRuleRead }
+        ensures takes { (rest : List (List ℕ)) → Reads self.old (no_parent_then rest) result (parsed.Plain record_of.Choice) self.new rest }
+        ensures stays { self.new ≡ record self.old { at = self.new.at } }
     {
         self.no_parent()?;
         Ok(ParsedRule::Plain(Rule::Choice))
     }
 
     fn abbreviation(&mut self) -> Result<ParsedRule, Stop>
-        ensures { IfOk result IsRuleRead }
+        ensures read { IfOk result IsRuleRead }
+        ensures takes { (rest : List (List ℕ)) → Reads self.old (no_parent_then rest) result (parsed.Abbreviate) self.new rest }
+        ensures stays { self.new ≡ record self.old { at = self.new.at } }
     {
         self.no_parent()?;
         Ok(ParsedRule::Abbreviate)
     }
 
     /// What stands between what a rule was applied to and its parents.
-    fn middle(&mut self) -> Result<(), Stop> {
+    fn middle(&mut self) -> Result<(), Stop>
+        ensures takes { (rest : List (List ℕ)) → PassesWords self.old (middle_then rest) result self.new rest }
+        ensures stays { self.new ≡ record self.old { at = self.new.at } }
+    {
         self.take_all(&[b"]", b",", b"["])
     }
 
     /// The end of a line.
-    fn end(&mut self) -> Result<(), Stop> {
+    fn end(&mut self) -> Result<(), Stop>
+        ensures takes { (rest : List (List ℕ)) → PassesWords self.old (end_then rest) result self.new rest }
+        ensures stays { self.new ≡ record self.old { at = self.new.at } }
+    {
         self.take_all(&[b"]", b")", b")", b"."])
     }
 
-    fn line_name(&mut self) -> Result<u64, Stop> {
+    fn line_name(&mut self) -> Result<u64, Stop>
+        ensures takes { (p : ℕ) (rest : List (List ℕ)) → p < 2 ^ 64 → Reads self.old (line_word p ∷ rest) result p self.new rest }
+        ensures stays { self.new ≡ record self.old { at = self.new.at } }
+    {
         let Some(number) = self.numbered(b'l') else {
             return Err(Stop::Refused);
         };
@@ -415,19 +455,28 @@ impl Reader<'_> {
         Ok(number)
     }
 
-    fn no_parent(&mut self) -> Result<(), Stop> {
+    fn no_parent(&mut self) -> Result<(), Stop>
+        ensures takes { (rest : List (List ℕ)) → PassesWords self.old (no_parent_then rest) result self.new rest }
+        ensures stays { self.new ≡ record self.old { at = self.new.at } }
+    {
         self.middle()?;
         self.end()
     }
 
-    fn one_parent(&mut self) -> Result<u64, Stop> {
+    fn one_parent(&mut self) -> Result<u64, Stop>
+        ensures takes { (p : ℕ) (rest : List (List ℕ)) → p < 2 ^ 64 → Reads self.old (one_parent_then p rest) result p self.new rest }
+        ensures stays { self.new ≡ record self.old { at = self.new.at } }
+    {
         self.middle()?;
         let parent = self.line_name()?;
         self.end()?;
         Ok(parent)
     }
 
-    fn two_parents(&mut self) -> Result<(u64, u64), Stop> {
+    fn two_parents(&mut self) -> Result<(u64, u64), Stop>
+        ensures takes { (p q : ℕ) (rest : List (List ℕ)) → p < 2 ^ 64 → q < 2 ^ 64 → Reads self.old (two_parents_then p q rest) result (p, q) self.new rest }
+        ensures stays { self.new ≡ record self.old { at = self.new.at } }
+    {
         self.middle()?;
         let first = self.line_name()?;
         self.take(b",")?;
@@ -437,7 +486,10 @@ impl Reader<'_> {
     }
 
     /// A parent, and the line of an abbreviation where one is used.
-    fn parent_and(&mut self) -> Result<(u64, Option<u64>), Stop> {
+    fn parent_and(&mut self) -> Result<(u64, Option<u64>), Stop>
+        ensures takes { (p : ℕ) (a : Option ℕ) (rest : List (List ℕ)) → p < 2 ^ 64 → IfSome a (λ q. q < 2 ^ 64) → Reads self.old (parent_and_then p a rest) result (p, a) self.new rest }
+        ensures stays { self.new ≡ record self.old { at = self.new.at } }
+    {
         self.middle()?;
         let parent = self.line_name()?;
         let abbr = self.second_name()?;
@@ -445,7 +497,11 @@ impl Reader<'_> {
         Ok((parent, abbr))
     }
 
-    fn second_name(&mut self) -> Result<Option<u64>, Stop> {
+    fn second_name(&mut self) -> Result<Option<u64>, Stop>
+        ensures none { (rest : List (List ℕ)) → Reads self.old (end_then rest) result None self.new (end_then rest) }
+        ensures some { (q : ℕ) (rest : List (List ℕ)) → q < 2 ^ 64 → Reads self.old (codes "," ∷ line_word q ∷ rest) result (Some q) self.new rest }
+        ensures stays { self.new ≡ record self.old { at = self.new.at } }
+    {
         if !self.sees(b",") {
             return Ok(None);
         }

@@ -1,9 +1,15 @@
 //! A text with the place of its next token.
 
+ghost use Rattle.std.specs.Prelude.{◌≡◌, ◌≤◌, ◌<◌, ◌^◌, ◌∷◌, ◌↔◌, List, ℕ, Some, IsTrue, map};
+ghost use Rattle.std.specs.Prelude as spec;
+ghost use Rattle.std.specs.Str.{bytes_eq};
+ghost use Rattle.leo_tstp.specs.Ahead.{IsTaken, Passes, TakesWord, TakesWords, ahead, ahead_of, first_word, token_word};
+
 use crate::reading::lexicon::Lexicon;
 use crate::reading::trees::Types;
 use crate::refusal::Stop;
 use indexmap::IndexSet;
+use itoa::Buffer;
 use leo_lex::Token;
 use std::alloc::Global;
 
@@ -29,22 +35,27 @@ pub(crate) struct Reader<'a> {
 }
 
 /// The number that digits without a leading zero say.
-pub(crate) fn decimal(text: &[u8]) -> Option<u64> {
-    if text.is_empty() || (text.len() > 1 && text[0] == b'0') {
+pub(crate) fn decimal(text: &[u8]) -> Option<u64>
+    ensures { (n : ℕ) → n < 2 ^ 64 → text.now ≡ spec.decimal n → result ≡ Some n }
+{
+    let Ok(digits) = str::from_utf8(text) else {
         return None;
+    };
+    let Ok(number) = digits.parse::<u64>() else {
+        return None;
+    };
+    let mut shown = Buffer::new();
+    if shown.format(number) == digits {
+        Some(number)
+    } else {
+        None
     }
-    let mut value: u64 = 0;
-    for byte in text {
-        if !byte.is_ascii_digit() {
-            return None;
-        }
-        value = value.checked_mul(10)?.checked_add(u64::from(*byte - b'0'))?;
-    }
-    Some(value)
 }
 
 /// The number behind a letter.
-pub(crate) fn number_behind(text: &[u8], letter: u8) -> Option<u64> {
+pub(crate) fn number_behind(text: &[u8], letter: u8) -> Option<u64>
+    ensures { (n : ℕ) → n < 2 ^ 64 → text.now ≡ letter ∷ spec.decimal n → result ≡ Some n }
+{
     match text.split_first() {
         Some((first, rest)) => {
             if *first == letter {
@@ -57,12 +68,17 @@ pub(crate) fn number_behind(text: &[u8], letter: u8) -> Option<u64> {
     }
 }
 
-pub(crate) fn is(word: &[u8], text: &[u8]) -> bool {
+pub(crate) fn is(word: &[u8], text: &[u8]) -> bool
+    ensures same { IsTrue result ↔ (word.now ≡ text.now) }
+    ensures test { result ≡ bytes_eq word.now text.now }
+{
     word == text
 }
 
 /// The bytes of a token of a text.
-fn text_at<'a>(bytes: &'a [u8], token: &Token) -> &'a [u8] {
+fn text_at<'a>(bytes: &'a [u8], token: &Token) -> &'a [u8]
+    ensures { result.now ≡ token_word bytes.now token.now }
+{
     let (start, end) = (token.start as usize, token.end as usize);
     if start <= end && end <= bytes.len() {
         &bytes[start..end]
@@ -73,7 +89,9 @@ fn text_at<'a>(bytes: &'a [u8], token: &Token) -> &'a [u8] {
 
 impl<'a> Reader<'a> {
     /// The bytes of a token, and none behind the last.
-    pub(crate) fn word_at(&self, at: usize) -> &'a [u8] {
+    pub(crate) fn word_at(&self, at: usize) -> &'a [u8]
+        ensures { result.now ≡ first_word (ahead self.now.bytes.now self.now.tokens.now at) }
+    {
         match self.tokens.get(at) {
             Some(token) => text_at(self.bytes, token),
             None => b"",
@@ -81,28 +99,40 @@ impl<'a> Reader<'a> {
     }
 
     /// The bytes of the next token.
-    pub(crate) fn word(&self) -> &'a [u8] {
+    pub(crate) fn word(&self) -> &'a [u8]
+        ensures { result.now ≡ first_word (ahead_of self.now) }
+    {
         self.word_at(self.at)
     }
 
     /// The number behind a letter, which is the next token.
-    pub(crate) fn numbered(&self, letter: u8) -> Option<u64> {
+    pub(crate) fn numbered(&self, letter: u8) -> Option<u64>
+        ensures { (n : ℕ) → n < 2 ^ 64 → first_word (ahead_of self.now) ≡ letter ∷ spec.decimal n → result ≡ Some n }
+    {
         number_behind(self.word(), letter)
     }
 
-    pub(crate) fn sees(&self, text: &[u8]) -> bool {
+    pub(crate) fn sees(&self, text: &[u8]) -> bool
+        ensures { IsTrue result ↔ (first_word (ahead_of self.now) ≡ text.now) }
+    {
         is(self.word(), text)
     }
 
     /// Passes the next token, if there is one.
-    pub(crate) fn pass(&mut self) {
+    pub(crate) fn pass(&mut self)
+        ensures passes { Passes self.old self.new }
+        ensures stays { self.new ≡ record self.old { at = self.new.at } }
+    {
         if self.at < self.tokens.len() {
             self.at += 1;
         }
     }
 
     /// Passes that token.
-    pub(crate) fn take(&mut self, text: &[u8]) -> Result<(), Stop> {
+    pub(crate) fn take(&mut self, text: &[u8]) -> Result<(), Stop>
+        ensures takes { TakesWord self.old text.now result self.new }
+        ensures stays { self.new ≡ record self.old { at = self.new.at } }
+    {
         if self.sees(text) {
             self.pass();
             Ok(())
@@ -112,7 +142,10 @@ impl<'a> Reader<'a> {
     }
 
     /// Passes those tokens.
-    pub(crate) fn take_all(&mut self, texts: &[&[u8]]) -> Result<(), Stop> {
+    pub(crate) fn take_all(&mut self, texts: &[&[u8]]) -> Result<(), Stop>
+        ensures takes { TakesWords self.old (map (λ t. t.now) texts.now) result self.new }
+        ensures stays { self.new ≡ record self.old { at = self.new.at } }
+    {
         for text in texts {
             self.take(text)?;
         }
@@ -120,7 +153,10 @@ impl<'a> Reader<'a> {
     }
 
     /// Passes the tokens of a text.
-    pub(crate) fn take_tokens(&mut self, text: &[u8], tokens: &[Token]) -> Result<(), Stop> {
+    pub(crate) fn take_tokens(&mut self, text: &[u8], tokens: &[Token]) -> Result<(), Stop>
+        ensures takes { TakesWords self.old (map (token_word text.now) tokens.now) result self.new }
+        ensures stays { self.new ≡ record self.old { at = self.new.at } }
+    {
         for token in tokens {
             self.take(text_at(text, token))?;
         }
@@ -128,7 +164,10 @@ impl<'a> Reader<'a> {
     }
 
     /// Passes a number up to a greatest one.
-    pub(crate) fn take_number(&mut self, greatest: u64) -> Result<u64, Stop> {
+    pub(crate) fn take_number(&mut self, greatest: u64) -> Result<u64, Stop>
+        ensures takes { (n : ℕ) (rest : List (List ℕ)) → n ≤ greatest → ahead_of self.old ≡ spec.decimal n ∷ rest → IsTaken result (λ m. (m ≡ n) × (ahead_of self.new ≡ rest)) }
+        ensures stays { self.new ≡ record self.old { at = self.new.at } }
+    {
         match decimal(self.word()) {
             Some(number) => {
                 if number > greatest {
@@ -142,7 +181,10 @@ impl<'a> Reader<'a> {
     }
 
     /// Passes a letter with that number.
-    pub(crate) fn take_numbered(&mut self, letter: u8, number: u64) -> Result<(), Stop> {
+    pub(crate) fn take_numbered(&mut self, letter: u8, number: u64) -> Result<(), Stop>
+        ensures takes { TakesWord self.old (letter ∷ spec.decimal number) result self.new }
+        ensures stays { self.new ≡ record self.old { at = self.new.at } }
+    {
         if self.numbered(letter) == Some(number) {
             self.pass();
             Ok(())

@@ -1,5 +1,9 @@
 //! Terms as they are read.
 
+ghost use Rattle.std.specs.Prelude.{◌≡◌, OnOk};
+ghost use Rattle.leo_tstp.specs.Shapes.{between, opening};
+ghost use Rattle.leo_tstp.specs.Places.{GoesOn, TakesBinder};
+
 use crate::reading::patterns::{Pattern, fits, parts, takes_truth};
 use crate::reading::source::{Reader, is, number_behind};
 use crate::reading::trees::{Joint, Parsed, Quantifier, ROOM, TRUTH, TypeNode, Typed};
@@ -19,7 +23,9 @@ pub(crate) enum Opening {
     Other,
 }
 
-pub(crate) fn opening_of(word: &[u8]) -> Opening {
+pub(crate) fn opening_of(word: &[u8]) -> Opening
+    ensures { result ≡ opening word.now }
+{
     if is(word, b"^") {
         Opening::Lambda
     } else if is(word, b"!") {
@@ -49,7 +55,9 @@ enum Between {
     Equal,
 }
 
-fn sign_of(word: &[u8]) -> Option<Between> {
+fn sign_of(word: &[u8]) -> Option<Between>
+    ensures { result ≡ between word.now }
+{
     if is(word, b"@") {
         Some(Between::Apply)
     } else if is(word, b"|") {
@@ -184,7 +192,10 @@ impl Reader<'_> {
     }
 
     /// A binder's variable, of a type that fits.
-    fn binder(&mut self, asked: Pattern<'_>) -> Result<usize, Stop> {
+    fn binder(&mut self, asked: Pattern<'_>) -> Result<usize, Stop>
+        ensures takes { TakesBinder self.old asked.entry result self.new }
+        ensures goes { OnOk result (GoesOn self.old self.new) }
+    {
         let around = self.scope.len();
         self.take(b"[")?;
         self.take_numbered(b'Y', around as u64)?;

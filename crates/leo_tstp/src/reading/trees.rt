@@ -1,5 +1,8 @@
 //! What a text says, as trees. Types and symbols are named by their places in lists.
 
+ghost use Rattle.std.specs.Prelude.{◌≡◌, IfOk, slice_get};
+ghost use Rattle.leo_terms.specs.Contents.{AddsShared};
+
 use indexmap::IndexSet;
 use leo_clause::Rule;
 use leo_items::Boxed;
@@ -34,13 +37,17 @@ impl Types {
     }
 
     /// The place of a type.
-    pub(crate) fn place(&mut self, node: TypeNode) -> Result<usize, AllocError> {
+    pub(crate) fn place(&mut self, node: TypeNode) -> Result<usize, AllocError>
+        ensures { IfOk result (λ p. AddsShared self.old.nodes.keys self.new.nodes.keys node p) }
+    {
         let (place, _) = self.nodes.insert_full(node)?;
         Ok(place)
     }
 
     /// How the type of a place is made.
-    pub(crate) fn node(&self, place: usize) -> Option<TypeNode> {
+    pub(crate) fn node(&self, place: usize) -> Option<TypeNode>
+        ensures { result ≡ slice_get self.now.nodes.keys place }
+    {
         self.nodes.get_index(place).copied()
     }
 }

@@ -1,5 +1,8 @@
 //! Types as they are read.
 
+ghost use Rattle.std.specs.Prelude.{OnOk};
+ghost use Rattle.leo_tstp.specs.Places.{GoesOn, TakesArrow, TakesBase, TakesType};
+
 use crate::reading::patterns::{Pattern, fits, parts};
 use crate::reading::source::Reader;
 use crate::reading::trees::TypeNode;
@@ -8,7 +11,10 @@ use crate::refusal::Stop;
 impl Reader<'_> {
     /// A type that fits.
     #[cycle(typing)]
-    pub(crate) fn read_type(&mut self, asked: Pattern<'_>, room: u32) -> Result<usize, Stop> {
+    pub(crate) fn read_type(&mut self, asked: Pattern<'_>, room: u32) -> Result<usize, Stop>
+        ensures takes { TakesType self.old asked.entry result self.new }
+        ensures goes { OnOk result (GoesOn self.old self.new) }
+    {
         let Some(room) = room.checked_sub(1) else {
             return Err(Stop::Memory);
         };
@@ -19,8 +25,11 @@ impl Reader<'_> {
         }
     }
 
-    fn base_type(&mut self, asked: Pattern<'_>) -> Result<usize, Stop> {
-        let Some(ty) = self.lexicon.types.get(self.word()).copied() else {
+    fn base_type(&mut self, asked: Pattern<'_>) -> Result<usize, Stop>
+        ensures takes { TakesBase self.old asked.entry result self.new }
+        ensures goes { OnOk result (GoesOn self.old self.new) }
+    {
+        let Some(ty) = self.lexicon.type_named(self.word()) else {
             return Err(Stop::Refused);
         };
         if !fits(&self.types, &asked, ty) {
@@ -31,7 +40,10 @@ impl Reader<'_> {
     }
 
     #[cycle(typing)]
-    fn arrow(&mut self, asked: Pattern<'_>, room: u32) -> Result<usize, Stop> {
+    fn arrow(&mut self, asked: Pattern<'_>, room: u32) -> Result<usize, Stop>
+        ensures takes { TakesArrow self.old asked.entry result self.new }
+        ensures goes { OnOk result (GoesOn self.old self.new) }
+    {
         let Some((from, to)) = parts(&self.types, asked) else {
             return Err(Stop::Refused);
         };

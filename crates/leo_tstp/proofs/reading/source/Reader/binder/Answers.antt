@@ -1,0 +1,5 @@
+use Rattle.leo_tstp.proofs.Typing.{goes-by, goes-trans}
+use Rattle.leo_tstp.proofs.reading.source.Reader.binder.Goals as goal
+
+pub returns-clause-goes : goal.returns-clause-goes
+returns-clause-goes c = goes-trans _ _ _ (goes-by _ _ c.in_ok-take.ensures.stays) (goes-trans _ _ _ (goes-by _ _ c.in_ok-take_numbered.ensures.stays) (goes-trans _ _ _ (goes-by _ _ c.in_ok-take-2.ensures.stays) (goes-trans _ _ _ c.in_ok-ty.ensures.goes (goes-by _ _ c.take_all.ensures.stays))))
