@@ -3,7 +3,7 @@
 
 usage: tools/fuzz_check.py [ROUNDS [SEED]]
 
-For each problem of examples/ that is refuted, ROUNDS (100 unless given) mutants of the prover's own output are checked: a byte
+For each problem of examples/ that is refuted within 20 turns, ROUNDS (100 unless given) mutants of the prover's own output are checked: a byte
 is changed, a piece is cut out or written twice, two lines change places, or a word is put in the place of another. It prints
 how often each answer came, and ends with 1 where an answer is none of the program's.
 """
@@ -48,7 +48,7 @@ def main(rounds=100, seed=1):
     with tempfile.TemporaryDirectory() as folder:
         proof = pathlib.Path(folder) / "proof"
         for problem in sorted((TOP / "examples").glob("*.p")):
-            answer = run("leo3", problem)
+            answer = run("leo3", "--turns", "20", problem)
             if answer.returncode != 0:
                 continue
             for _ in range(rounds):
