@@ -74,6 +74,18 @@ pub(crate) const ROWS: &[Row] = &[
         outside: Outside::Whole,
     },
     Row {
+        title: "an axiom and its denial",
+        text: b"leo3fo 1\nturns 10000\nweight 256\nsorts 1\nsyms 3\n0\n0\n0\nclauses 3\n0 1 - f0 f1\n0 1 + f2 f0\n0 1 + f2 f1\nend\n",
+        behind: b"",
+        outside: Outside::Whole,
+    },
+    Row {
+        title: "the truth values differ",
+        text: b"leo3fo 1\nturns 10000\nweight 256\nsorts 1\nsyms 2\n0\n0\nclauses 1\n0 1 - f0 f1\nend\n",
+        behind: b"",
+        outside: Outside::Whole,
+    },
+    Row {
         title: "nothing is left",
         text: b"leo3fo 1\nturns 10000\nweight 256\nsorts 2\nsyms 5\n0\n0\n1\n0 1\n0 1\nclauses 3\n0 1 - f0 f1\n0 1 + f3 f2 f0\n0 1 - f4 f2 f0\nend\n",
         behind: b"",
