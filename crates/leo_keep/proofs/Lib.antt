@@ -13,3 +13,5 @@ mod Admitting
 mod Joining
 mod Matched
 mod Sending
+mod Fronting
+pub mod CallerLemmas

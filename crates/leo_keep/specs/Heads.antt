@@ -1,4 +1,4 @@
--- The heads of the sides of literals, for a quick test. No public contract speaks of them.
+-- The heads of the sides of literals, for quick tests.
 use Rattle.std.specs.Prelude.{ℕ, ◌≡◌, ◌<◌, List, [], ◌∷◌, length, map}
 use Rattle.leo_terms.specs.Tree.{Tree, variable, bound, symbol, app, lam, logic, absent, Connective}
 use Rattle.leo_terms.specs.Contents.{Contents, tree_at}

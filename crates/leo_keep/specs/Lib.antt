@@ -4,3 +4,4 @@ pub mod Outcomes
 pub mod Laws
 pub mod Matching
 pub mod Heads
+pub mod Fronts

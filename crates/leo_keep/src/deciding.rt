@@ -4,10 +4,12 @@ ghost use Rattle.std.specs.Prelude.{◌≡◌, ◌<◌, ◌≤◌, ◌⊎◌, le
 ghost use Rattle.std.specs.Bool.{Decides};
 ghost use Rattle.leo_clause.specs.Trees.{clause_at, literal_at};
 ghost use Rattle.leo_clause.specs.Typed.{AreLiteralsOf, IsTypedIn, IsClauseOf};
+ghost use Rattle.leo_keep.specs.Fronts.{AreFronts, IsFront};
 ghost use Rattle.leo_keep.specs.Heads.{HaveHeads};
 ghost use Rattle.leo_keep.specs.Subsumption.{Subsumes};
 ghost use Rattle.leo_keep.specs.Outcomes.{AreTypedIn, HoldsOfNone, IsHeavy, IsLeast, LacksRoom, OutcomeOf};
 
+use crate::fronts::{Front, may_be_copy, may_start};
 use crate::heads::{heads_of, may_send};
 use crate::kept::Kept;
 use crate::outcomes::Outcome;
@@ -68,35 +70,55 @@ fn is_same(bank: &Bank, clause: &Clause, other: &Clause) -> bool
     same_types(clause.vars.as_slice(), other.vars.as_slice())
 }
 
+/// The same of a clause with this front.
+fn is_copy(bank: &Bank, front: &Option<Front>, clause: &Clause, other: &Clause) -> bool
+    requires front { IsFront bank.now clause.now front.now }
+    requires clause { IsClauseOf bank.now clause.now }
+    requires other { IsClauseOf bank.now other.now }
+    ensures { Decides result (clause_at bank.now clause.now ≡ clause_at bank.now other.now) }
+{
+    bank.is_sound();
+    if !may_be_copy(front, other) {
+        return false;
+    }
+    is_same(bank, clause, other)
+}
+
 /// The least number of a kept clause that is the same.
-fn copied(bank: &Bank, kept: &[Clause], c: &Clause) -> Option<u32>
+fn copied(bank: &Bank, kept: &[Clause], fronts: &[Option<Front>], c: &Clause) -> Option<u32>
     requires kept { AreTypedIn bank.now kept.now }
+    requires fronts { AreFronts bank.now kept.now fronts.now }
     requires few { length kept.now < 200000 }
     requires clause { IsTypedIn bank.now c.now }
     ensures { MatchOption result (HoldsOfNone (λ k. k ≡ clause_at bank.now c.now) (map (clause_at bank.now) kept.now)) (IsLeast (λ k. k ≡ clause_at bank.now c.now) (map (clause_at bank.now) kept.now)) }
 {
     for number in 0..kept.len() {
-        if is_same(bank, &kept[number], c) {
+        if is_copy(bank, &fronts[number], &kept[number], c) {
             return Some(number as u32);
         }
     }
     None
 }
 
-/// Whether a clause subsumes another, of which the heads are these.
+/// Whether a clause with this front subsumes another, of which the heads are these.
 fn subsumes_with(
     alloc: Global,
     bank: &Bank,
+    front: &Option<Front>,
     clause: &Clause,
     other: &Clause,
     heads: &[Lit],
 ) -> Result<bool, AllocError>
+    requires front { IsFront bank.now clause.now front.now }
     requires typed { IsTypedIn bank.now clause.now }
     requires other_typed { IsTypedIn bank.now other.now }
     requires heads { HaveHeads bank.now (map (literal_at bank.now) other.now.lits) heads.now }
     requires heads_of { AreLiteralsOf bank.now heads.now }
     ensures { IfOk result (λ b. Decides b (Subsumes (clause_at bank.now clause.now) (clause_at bank.now other.now))) }
 {
+    if !may_start(bank, front, heads) {
+        return Ok(false);
+    }
     if !may_send(bank, clause.lits.as_slice(), heads) {
         return Ok(false);
     }
@@ -109,16 +131,25 @@ fn subsuming(
     alloc: Global,
     bank: &Bank,
     kept: &[Clause],
+    fronts: &[Option<Front>],
     c: &Clause,
 ) -> Result<Option<u32>, AllocError>
     requires kept { AreTypedIn bank.now kept.now }
+    requires fronts { AreFronts bank.now kept.now fronts.now }
     requires few { length kept.now < 200000 }
     requires clause { IsTypedIn bank.now c.now }
     ensures { IfOk result (λ o. MatchOption o (HoldsOfNone (λ k. Subsumes k (clause_at bank.now c.now)) (map (clause_at bank.now) kept.now)) (IsLeast (λ k. Subsumes k (clause_at bank.now c.now)) (map (clause_at bank.now) kept.now))) }
 {
     let heads = heads_of(alloc, bank, c.lits.as_slice())?;
     for number in 0..kept.len() {
-        let found = subsumes_with(alloc, bank, &kept[number], c, heads.as_slice())?;
+        let found = subsumes_with(
+            alloc,
+            bank,
+            &fronts[number],
+            &kept[number],
+            c,
+            heads.as_slice(),
+        )?;
         if found {
             return Ok(Some(number as u32));
         }
@@ -126,8 +157,8 @@ fn subsuming(
     Ok(None)
 }
 
-/// The first of these that holds of a clause that was found, where `kept` are the kept clauses and all sides are in
-/// normal form:
+/// The first of these that holds of a clause that was found, where `kept` are the kept clauses, `fronts` their fronts
+/// ([`front_of`](crate::front_of)), one for each, and all sides are in normal form:
 ///
 /// - [`Outcome::Tautology`]: a literal is `s = s`; or two are `s = t` and `s != t`, as they are or turned; or two are
 ///   `A = T` and `A = F`.
@@ -146,10 +177,12 @@ pub fn outcome(
     alloc: Global,
     bank: &Bank,
     kept: &Kept,
+    fronts: &[Option<Front>],
     c: &Clause,
     weight: Option<u16>,
 ) -> Result<Outcome, AllocError>
     requires kept { AreTypedIn bank.now kept.now }
+    requires fronts { AreFronts bank.now kept.now fronts.now }
     requires clause { IsTypedIn bank.now c.now }
     ensures { IfOk result (OutcomeOf (map (clause_at bank.now) kept.now) (clause_at bank.now c.now) weight) }
 {
@@ -163,9 +196,9 @@ pub fn outcome(
     if is_heavy(bank, c, weight) {
         return Ok(Outcome::Heavy);
     }
-    match copied(bank, clauses, c) {
+    match copied(bank, clauses, fronts, c) {
         Some(number) => Ok(Outcome::Copy(number)),
-        None => match subsuming(alloc, bank, clauses, c)? {
+        None => match subsuming(alloc, bank, clauses, fronts, c)? {
             Some(number) => Ok(Outcome::Subsumed(number)),
             None => Ok(Outcome::Kept),
         },

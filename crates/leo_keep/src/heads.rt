@@ -25,7 +25,7 @@ fn head_of(bank: &Bank, t: TermId) -> TermId
 }
 
 /// A literal that has the heads of the sides of another as its own.
-fn heads_of_literal(bank: &Bank, lit: &Lit) -> Lit
+pub(crate) fn heads_of_literal(bank: &Bank, lit: &Lit) -> Lit
     requires left { lit.now.left < length bank.now.terms }
     requires right { lit.now.right < length bank.now.terms }
     ensures { HasHeads bank.now (literal_at bank.now lit.now) result }
@@ -111,7 +111,7 @@ fn may_be_same(bank: &Bank, heads: &Lit, others: &Lit) -> bool
 }
 
 /// Whether a literal with these heads may become one of some.
-fn may_be_among(bank: &Bank, heads: &Lit, others: &[Lit]) -> bool
+pub(crate) fn may_be_among(bank: &Bank, heads: &Lit, others: &[Lit]) -> bool
     requires left { heads.now.left < length bank.now.terms }
     requires right { heads.now.right < length bank.now.terms }
     requires others { AreLiteralsOf bank.now others.now }

@@ -2,6 +2,7 @@
 #![tactic(auto)]
 
 mod deciding;
+mod fronts;
 mod heads;
 mod kept;
 pub mod laws;
@@ -12,6 +13,7 @@ mod tautologies;
 mod tops;
 
 pub use deciding::outcome;
+pub use fronts::{Front, front_of};
 pub use kept::Kept;
 pub use outcomes::Outcome;
 
