@@ -1,5 +1,5 @@
 -- Terms that stand ready, as the bank grows and as they are made.
-use Rattle.std.proofs.Common.{ℕ, zero, suc, ◌≡◌, ◌<◌, ◌++◌, List, [], ◌∷◌, length, slice_get, slice_index_or, Option, Some, None, refl, arith, ◌⊎◌, inl, inr}
+use Rattle.std.proofs.Common.{ℕ, zero, suc, ◌≡◌, ◌∙◌, ◌+◌, ◌<◌, ◌++◌, List, [], ◌∷◌, length, take, slice_get, slice_index_or, Option, Some, None, refl, sym, ap, arith, ◌⊎◌, inl, inr}
 use Rattle.leo_q0.specs.Terms.{base}
 use Rattle.leo_terms.specs.Tree.{Tree, IsBoundAt}
 use Rattle.leo_terms.specs.Contents.{Contents, IsBank, Extends, IsTerm, argument, tree_at, type_at}
@@ -7,6 +7,10 @@ use Rattle.leo_terms.proofs.CallerLemmas.{sound, tree-kept, reads-base}
 use Rattle.leo_clause.specs.declared.clause.Lit.{Lit}
 use Rattle.leo_clause.specs.declared.clause.Clause.{Clause}
 use Rattle.leo_clause.specs.Typed.{AreTypesOf, AreLiteralsOf, IsClauseOf}
+use Rattle.std.proofs.lemmas.List.{take_more}
+use Rattle.leo_keep.specs.declared.fronts.Front.{Front}
+use Rattle.leo_keep.specs.Fronts.{AreFronts, IsFront}
+use Rattle.leo_keep.proofs.CallerLemmas.{fronts-added}
 use Rattle.keep_rows.specs.declared.board.Board.{Board}
 use Rattle.keep_rows.specs.Boards.{AreClausesOf, IsBoard}
 use Rattle.keep_rows.specs.Stacks.{IsReady, AreReady, AreSymbols}
@@ -93,3 +97,7 @@ pub clause-at : (c : Contents) (ks : List Clause) → AreClausesOf c ks → (i :
 clause-at c [] h i k l e = absurd (omega arith)
 clause-at c (d ∷ ks) h zero k l e = rw e h.0
 clause-at c (d ∷ ks) h (suc i) k l e = clause-at c ks h.1 i k (omega arith) e
+
+-- the front of one clause more
+pub fronts-next : (c : Contents) (ks : List Clause) (i : ℕ) (k : Clause) (fs : List (Option Front)) (f : Option Front) → AreFronts c (take i ks) fs → i < length ks → k ≡ slice_index_or ks i k → IsFront c k f → AreFronts c (take (i + 1) ks) (fs ++ f ∷ [])
+fronts-next c ks i k fs f h l e g = rw (take_more ks i k l ∙ ap (λ z. take i ks ++ z ∷ []) (sym e)) (fronts-added c (take i ks) fs k f h g)

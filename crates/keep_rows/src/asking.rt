@@ -4,12 +4,13 @@
 ghost use Rattle.std.specs.Prelude.{IfOk, IfSome, length};
 ghost use Rattle.leo_terms.specs.Contents.{Extends};
 ghost use Rattle.leo_clause.specs.Typed.{IsClauseOf};
+ghost use Rattle.leo_keep.specs.Fronts.{AreFronts};
 ghost use Rattle.keep_rows.specs.Boards.{AreClausesOf, IsBoard};
 
 use crate::board::{Board, read_clause};
 use crate::typing::{are_typed, is_typed};
 use leo_clause::Clause;
-use leo_keep::{Kept, Outcome, outcome};
+use leo_keep::{Front, Kept, Outcome, front_of, outcome};
 use leo_terms::Bank;
 use std::alloc::{AllocError, Global};
 
@@ -136,6 +137,22 @@ fn row_of(
     Ok(Some(Row { kept, found }))
 }
 
+/// What quick tests know of clauses.
+fn fronts_of(
+    alloc: Global,
+    bank: &Bank,
+    clauses: &[Clause],
+) -> Result<Vec<Option<Front>>, AllocError>
+    requires { AreClausesOf bank.now clauses.now }
+    ensures { IfOk result (λ fs. AreFronts bank.now clauses.now fs.items) }
+{
+    let mut fronts = Vec::new(alloc);
+    for clause in clauses {
+        fronts.push(front_of(bank, clause))?;
+    }
+    Ok(fronts)
+}
+
 /// The outcome of a row's clause, where all are typed.
 fn decided(
     alloc: Global,
@@ -152,7 +169,15 @@ fn decided(
     if !is_typed(bank, &row.found) {
         return Ok(None);
     }
-    let decided = outcome(alloc, bank, &row.kept, &row.found, limit)?;
+    let fronts = fronts_of(alloc, bank, row.kept.clauses())?;
+    let decided = outcome(
+        alloc,
+        bank,
+        &row.kept,
+        fronts.as_slice(),
+        &row.found,
+        limit,
+    )?;
     Ok(Some(decided))
 }
 

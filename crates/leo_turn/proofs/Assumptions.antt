@@ -120,6 +120,7 @@ search-empty c hyps depth weight h = record {
   choice_lines = tt;
   rising = tt;
   typed = tt;
+  fronts = tt;
   normal = tt;
   few = omega arith;
   clause_lines = tt;

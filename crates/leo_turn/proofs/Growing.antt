@@ -1,8 +1,9 @@
 -- Searches that grew.
-use Rattle.std.proofs.Common.{ℕ, suc, ◌≡◌, ◌∙◌, ◌+◌, ◌-◌, ◌<◌, ◌^◌, Bool, true, false, List, [], ◌∷◌, ◌++◌, length, refl, sym, ap, subst, append-nil, eq-eqb, ne_eqb, ◌||◌, arith}
+use Rattle.std.proofs.Common.{ℕ, suc, ◌≡◌, ◌∙◌, ◌+◌, ◌-◌, ◌<◌, ◌^◌, Bool, true, false, List, [], ◌∷◌, ◌++◌, length, Option, refl, sym, ap, subst, append-nil, eq-eqb, ne_eqb, ◌||◌, arith}
 use Rattle.std.specs.Prelude.{nat_eq}
 use Rattle.leo_clause.specs.declared.clause.Clause.{Clause}
 use Rattle.leo_clause.specs.declared.record.StepRecord.{StepRecord}
+use Rattle.leo_keep.specs.declared.fronts.Front.{Front}
 use Rattle.leo_passive.specs.Entries.{Entry, AreBelow, without, has_number}
 use Rattle.leo_turn.specs.declared.search.Search.{Search}
 use Rattle.leo_turn.specs.Growth.{IsLonger, AreNext, Grows}
@@ -21,6 +22,7 @@ grows-itself s = record {
   abbr_at = longer-itself s.abbr_at;
   lines = longer-itself s.lines;
   at = longer-itself s.at;
+  fronts = longer-itself s.fronts;
   active = refl;
   turns = refl;
   depth = refl;
@@ -41,6 +43,7 @@ grows-trans {r} {s} {t} g h = record {
   abbr_at = longer-trans g.abbr_at h.abbr_at;
   lines = longer-trans g.lines h.lines;
   at = longer-trans g.at h.at;
+  fronts = longer-trans g.fronts h.fronts;
   active = h.active ∙ g.active;
   turns = h.turns ∙ g.turns;
   depth = h.depth ∙ g.depth;
@@ -61,6 +64,7 @@ grows-lines s lines l = record {
   abbr_at = longer-itself s.abbr_at;
   lines = l;
   at = longer-itself s.at;
+  fronts = longer-itself s.fronts;
   active = refl;
   turns = refl;
   depth = refl;
@@ -74,13 +78,14 @@ grows-lines s lines l = record {
   few = λ h. h;
 }
 
-pub grows-at : (s : Search) (lines : List ℕ) → IsLonger s.at lines → Grows s (record { hyps = s.hyps; abbr = s.abbr; abbr_at = s.abbr_at; kept = s.kept; active = s.active; passive = s.passive; lines = s.lines; at = lines; turns = s.turns; depth = s.depth; weight = s.weight })
-grows-at s lines l = record {
+pub grows-at : (s : Search) (lines : List ℕ) (fronts : List (Option Front)) → IsLonger s.at lines → IsLonger s.fronts fronts → Grows s (record { hyps = s.hyps; abbr = s.abbr; abbr_at = s.abbr_at; kept = s.kept; fronts = fronts; active = s.active; passive = s.passive; lines = s.lines; at = lines; turns = s.turns; depth = s.depth; weight = s.weight })
+grows-at s lines fronts l f = record {
   hyps = refl;
   abbr = longer-itself s.abbr.items;
   abbr_at = longer-itself s.abbr_at;
   lines = longer-itself s.lines;
   at = l;
+  fronts = f;
   active = refl;
   turns = refl;
   depth = refl;
@@ -94,13 +99,14 @@ grows-at s lines l = record {
   few = λ h. h;
 }
 
-pub grows-clause : (s : Search) (k : Clause) (n w : ℕ) → length s.kept < 200000 → Grows s (with_clause s k n w)
-grows-clause s k n w l = record {
+pub grows-clause : (s : Search) (k : Clause) (f : Option Front) (n w : ℕ) → length s.kept < 200000 → Grows s (with_clause s k f n w)
+grows-clause s k f n w l = record {
   hyps = refl;
   abbr = longer-itself s.abbr.items;
   abbr_at = longer-itself s.abbr_at;
   lines = longer-itself s.lines;
   at = record { more = n ∷ []; is = refl };
+  fronts = record { more = f ∷ []; is = refl };
   active = refl;
   turns = refl;
   depth = refl;
@@ -160,6 +166,7 @@ module _ {old new : Search} (g : Grows old new) (below : AreBelow (length old.ke
     abbr = longer-length g.abbr;
     abbr_at = longer-length g.abbr_at;
     at = longer-length g.at;
+    fronts = longer-length g.fronts;
     kept = longer-length (record { more = g.clauses; is = g.kept });
     few = few;
     there = rw (as_many-came, g.passive) (next-there (length old.kept) old.passive g.entries below g.numbered);
@@ -169,7 +176,7 @@ module _ {old new : Search} (g : Grows old new) (below : AreBelow (length old.ke
   passive-cut = rw (as_many-came, g.passive) (next-taken_out (length old.kept) old.passive g.entries below g.numbered)
 
   pub cut-back : cut_to (mark_of old) new ≡ old
-  cut-back = rw (g.hyps, longer-cut g.abbr, longer-cut g.abbr_at, longer-cut (record { more = g.clauses; is = g.kept }), g.active, passive-cut, longer-cut g.lines, longer-cut g.at, g.turns, g.depth, g.weight) refl
+  cut-back = rw (g.hyps, longer-cut g.abbr, longer-cut g.abbr_at, longer-cut (record { more = g.clauses; is = g.kept }), longer-cut g.fronts, g.active, passive-cut, longer-cut g.lines, longer-cut g.at, g.turns, g.depth, g.weight) refl
 
 -- one number less
 pub range-next : {rest : List Entry} (n end : ℕ) (es fs : List Entry) → n < end → fs ≡ without n es → AreThere n (end - n) es → without_range n (end - n) es ≡ rest → AreThere (n + 1) (end - (n + 1)) fs × (without_range (n + 1) (end - (n + 1)) fs ≡ rest)

@@ -84,9 +84,9 @@ announced {c} {d} e s line item h order first second reads step =
       new_is = refl;
     }
 
-pub grows-choice : (s : Search) (lines : List StepRecord) (abbr_at : List ℕ) (items : List (ℕ × ℕ)) → IsLonger s.lines lines → IsLonger s.abbr_at abbr_at → IsLonger s.abbr.items items → Grows s (record { hyps = s.hyps; abbr = record { items = items }; abbr_at = abbr_at; kept = s.kept; active = s.active; passive = s.passive; lines = lines; at = s.at; turns = s.turns; depth = s.depth; weight = s.weight })
+pub grows-choice : (s : Search) (lines : List StepRecord) (abbr_at : List ℕ) (items : List (ℕ × ℕ)) → IsLonger s.lines lines → IsLonger s.abbr_at abbr_at → IsLonger s.abbr.items items → Grows s (record { hyps = s.hyps; abbr = record { items = items }; abbr_at = abbr_at; kept = s.kept; fronts = s.fronts; active = s.active; passive = s.passive; lines = lines; at = s.at; turns = s.turns; depth = s.depth; weight = s.weight })
 grows-choice s lines abbr_at items l a i =
-    record { hyps = refl; abbr = i; abbr_at = a; lines = l; at = longer-itself s.at; active = refl; turns = refl; depth = refl; weight = refl; clauses = []; entries = []; kept = nil s.kept; passive = nil s.passive; numbered = tt; as_many = refl; few = λ h. h }
+    record { hyps = refl; abbr = i; abbr_at = a; lines = l; at = longer-itself s.at; fronts = longer-itself s.fronts; active = refl; turns = refl; depth = refl; weight = refl; clauses = []; entries = []; kept = nil s.kept; passive = nil s.passive; numbered = tt; as_many = refl; few = λ h. h }
   where
     nil : {X : Type 0} (xs : List X) → xs ≡ xs ++ []
     nil [] = refl

@@ -12,6 +12,8 @@ use Rattle.leo_kernel.specs.Symbols.{abbreviation_at}
 use Rattle.leo_clausify.specs.declared.leaves.Leaf.{Leaf}
 use Rattle.leo_clausify.specs.Leaves.{IsLeafOf, leaf_clause}
 use Rattle.leo_keep.specs.declared.outcomes.Outcome.TheVariants as outcome
+use Rattle.leo_keep.specs.declared.fronts.Front.{Front}
+use Rattle.leo_keep.specs.Fronts.{IsFront}
 use Rattle.leo_keep.specs.Outcomes.{OutcomeOf}
 use Rattle.leo_turn.specs.declared.search.Search.{Search}
 use Rattle.leo_turn.specs.Changing.{AreAppended, AreLeavesOf, AreReady, IsKept, IsLeafAt, HasSameSymbols, with_clause, with_lines}
@@ -32,12 +34,12 @@ leaf-ready c s n leaf h l = record {
   accepted = l.leaf_of.accepted;
 }
 
-pub kept-leaf : (c : Contents) (s : Search) (n w : ℕ) (leaf : Leaf) (lines : List StepRecord) → IsSearch c s → length s.kept < 200000 → IsLeafAt c s n leaf → AreAppended c leaf.records s.lines lines → IsLonger s.lines lines → w ≡ passive_weight (clause_at c leaf.clause) → IsKept c s (with_clause (with_lines s lines) leaf.clause (length lines - 1) w) leaf
-kept-leaf c s n w leaf lines h few l a longer weight =
+pub kept-leaf : (c : Contents) (s : Search) (n w : ℕ) (leaf : Leaf) (f : Option Front) (lines : List StepRecord) → IsSearch c s → IsFront c leaf.clause f → length s.kept < 200000 → IsLeafAt c s n leaf → AreAppended c leaf.records s.lines lines → IsLonger s.lines lines → w ≡ passive_weight (clause_at c leaf.clause) → IsKept c s (with_clause (with_lines s lines) leaf.clause f (length lines - 1) w) leaf
+kept-leaf c s n w leaf f lines h front few l a longer weight =
     let valid : IsSearch c (with_lines s lines) = search-lines c s lines h longer (a.steps h.steps) (a.accepted (hypotheses_of c s) h.accepted) in
     let line : HasClause (map (line_at c) lines) (length lines - 1) (clause_at c leaf.clause) = subst (HasClause (map (line_at c) lines) (length lines - 1)) l.leaf_of.ends (a.ends l.start l.leaf_of.some) in
     record {
-      search = search-clause c (with_lines s lines) leaf.clause (length lines - 1) w valid few l.leaf_of.typed l.leaf_of.normal line (a.plain l.leaf_of.some) weight;
+      search = search-clause c (with_lines s lines) leaf.clause f (length lines - 1) w valid few l.leaf_of.typed front l.leaf_of.normal line (a.plain l.leaf_of.some) weight;
       start = record { abbr = refl; lines = longer-map (line_at c) longer };
       kept = refl;
     }

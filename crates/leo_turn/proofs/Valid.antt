@@ -1,5 +1,5 @@
 -- Valid searches stay valid.
-use Rattle.std.proofs.Common.{ℕ, zero, suc, ◌≡◌, ◌∙◌, ◌+◌, ◌<◌, ◌⊎◌, inl, inr, false, List, [], ◌∷◌, ◌++◌, length, map, take, slice_get, Some, None, refl, sym, ap, subst, eq-eqb, ne_eqb, arith}
+use Rattle.std.proofs.Common.{ℕ, zero, suc, ◌≡◌, ◌∙◌, ◌+◌, ◌<◌, ◌⊎◌, inl, inr, false, List, [], ◌∷◌, ◌++◌, length, map, take, slice_get, Option, Some, None, refl, sym, ap, subst, eq-eqb, ne_eqb, arith}
 use Rattle.std.specs.Prelude.{nat_eq}
 use Rattle.leo_terms.specs.Tree.{Tree}
 use Rattle.leo_terms.specs.Contents.{Contents, Extends}
@@ -19,7 +19,10 @@ use Rattle.leo_clausify.specs.Choosing.{AreInOrder, AreChoices}
 use Rattle.leo_clausify.specs.Leaves.{choice_line}
 use Rattle.leo_clausify.specs.Splitting.{AreNormal}
 use Rattle.leo_clausify.proofs.Picks.{items-kept, items-grow}
+use Rattle.leo_keep.specs.declared.fronts.Front.{Front}
+use Rattle.leo_keep.specs.Fronts.{IsFront}
 use Rattle.leo_keep.specs.Outcomes.{AreTypedIn}
+use Rattle.leo_keep.proofs.CallerLemmas.{fronts-added, fronts-grow}
 use Rattle.leo_passive.specs.Entries.{Entry, AreBelow}
 use Rattle.leo_turn.specs.declared.search.Search.{Search}
 use Rattle.leo_turn.specs.Changing.{with_lines, with_choice, with_clause}
@@ -87,6 +90,7 @@ search-lines c s ls h l steps a = record {
   choice_lines = choices-longer (longer-map (line_at c) l) s.abbr_at (choices_of c s) h.choice_lines;
   rising = h.rising;
   typed = h.typed;
+  fronts = h.fronts;
   normal = h.normal;
   few = h.few;
   clause_lines = clauses-longer (longer-map (line_at c) l) s.at (kept_of c s) h.clause_lines;
@@ -137,6 +141,7 @@ module _ {c d : Contents} (e : Extends c d) where
       choice_lines = rw (lines-same, choices-same) h.choice_lines;
       rising = h.rising;
       typed = all_typed-grow s.kept h.typed;
+      fronts = fronts-grow e s.kept s.fronts h.typed h.fronts;
       normal = normal-grow s.kept h.typed h.normal;
       few = h.few;
       clause_lines = rw (lines-same, kept-same) h.clause_lines;
@@ -174,6 +179,7 @@ search-choice c s line item h order step is a =
       choice_lines = rw (map-append (choice_at c) s.abbr.items (item ∷ [])) (choices-added (map (line_at c) (s.lines ++ line ∷ [])) s.abbr_at (choices_of c s) (length s.lines) (choice_at c item) (choices-longer longer s.abbr_at (choices_of c s) h.choice_lines) stands);
       rising = rising-added (length s.lines) s.abbr_at h.rising (subst (λ n. AreAllBelow n s.abbr_at) count (choice-within (lines_of c s) s.abbr_at (choices_of c s) h.choice_lines));
       typed = h.typed;
+      fronts = h.fronts;
       normal = h.normal;
       few = h.few;
       clause_lines = clauses-longer longer s.at (kept_of c s) h.clause_lines;
@@ -239,8 +245,8 @@ weights-added : (ks : List ClauseTree) (es : List Entry) (e : Entry) → HaveWei
 weights-added ks [] e h g = (g, tt)
 weights-added ks (d ∷ es) e h g = (h.0, weights-added ks es e h.1 g)
 
-pub search-clause : (c : Contents) (s : Search) (k : Clause) (n w : ℕ) → IsSearch c s → length s.kept < 200000 → IsTypedIn c k → AreNormal (clause_at c k).literals → HasClause (lines_of c s) n (clause_at c k) → abbreviation_of (lines_of c s) n ≡ None → w ≡ passive_weight (clause_at c k) → IsSearch c (with_clause s k n w)
-search-clause c s k n w h few typed normal line plain weight =
+pub search-clause : (c : Contents) (s : Search) (k : Clause) (f : Option Front) (n w : ℕ) → IsSearch c s → length s.kept < 200000 → IsTypedIn c k → IsFront c k f → AreNormal (clause_at c k).literals → HasClause (lines_of c s) n (clause_at c k) → abbreviation_of (lines_of c s) n ≡ None → w ≡ passive_weight (clause_at c k) → IsSearch c (with_clause s k f n w)
+search-clause c s k f n w h few typed front normal line plain weight =
     let more : map (clause_at c) (s.kept ++ k ∷ []) ≡ kept_of c s ++ clause_at c k ∷ [] = map-append (clause_at c) s.kept (k ∷ []) in
     let count : length (s.kept ++ k ∷ []) ≡ length s.kept + 1 = length-append s.kept (k ∷ []) in
     let same : length (kept_of c s) ≡ length s.kept = length-map (clause_at c) s.kept in
@@ -254,6 +260,7 @@ search-clause c s k n w h few typed normal line plain weight =
       choice_lines = h.choice_lines;
       rising = h.rising;
       typed = typed-added c s.kept k h.typed typed;
+      fronts = fronts-added c s.kept s.fronts k f h.fronts front;
       normal = normal-added c s.kept k h.normal normal;
       few = omega arith;
       clause_lines = rw more (clauses-added (lines_of c s) s.at (kept_of c s) n (clause_at c k) h.clause_lines line);

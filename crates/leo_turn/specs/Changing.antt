@@ -1,5 +1,5 @@
 -- How the calls below `intake` change a search. For private contracts.
-use Rattle.std.specs.Prelude.{ℕ, zero, suc, ◌≡◌, ◌-◌, ◌<◌, ◌≤◌, ◌^◌, List, [], ◌∷◌, ◌++◌, length, map, take, get_or, slice_get, Some, None, IsTrue}
+use Rattle.std.specs.Prelude.{ℕ, zero, suc, ◌≡◌, ◌-◌, ◌<◌, ◌≤◌, ◌^◌, List, [], ◌∷◌, ◌++◌, length, map, take, get_or, slice_get, Option, Some, None, IsTrue}
 use Rattle.leo_terms.specs.Tree.{Tree}
 use Rattle.leo_terms.specs.Contents.{Contents}
 use Rattle.leo_clause.specs.declared.clause.Clause.{Clause}
@@ -14,6 +14,7 @@ use Rattle.leo_kernel.specs.Symbols.{LackSymbol, LinesLackSymbol, abbreviation_o
 use Rattle.leo_clausify.specs.Leaves.{IsLeafOf, choice_line, last_clause}
 use Rattle.leo_clausify.specs.declared.leaves.Leaf.{Leaf}
 use Rattle.leo_derive.specs.Pruning.{numbered_line}
+use Rattle.leo_keep.specs.declared.fronts.Front.{Front}
 use Rattle.leo_passive.specs.Entries.{Entry, without, has_number}
 use Rattle.leo_turn.specs.declared.marks.Mark.{Mark}
 use Rattle.leo_turn.specs.declared.search.Search.{Search}
@@ -24,15 +25,15 @@ use Rattle.leo_clausify.specs.Splitting.{AreNormal}
 
 -- the search with another journal
 abbrev pub with_lines : Search → List StepRecord → Search
-with_lines s lines = record { hyps = s.hyps; abbr = s.abbr; abbr_at = s.abbr_at; kept = s.kept; active = s.active; passive = s.passive; lines = lines; at = s.at; turns = s.turns; depth = s.depth; weight = s.weight }
+with_lines s lines = record { hyps = s.hyps; abbr = s.abbr; abbr_at = s.abbr_at; kept = s.kept; fronts = s.fronts; active = s.active; passive = s.passive; lines = lines; at = s.at; turns = s.turns; depth = s.depth; weight = s.weight }
 
 -- the search with a choice symbol more, which this line introduces
 abbrev pub with_choice : Search → StepRecord → ℕ × ℕ → Search
-with_choice s line item = record { hyps = s.hyps; abbr = record { items = s.abbr.items ++ item ∷ [] }; abbr_at = s.abbr_at ++ length s.lines ∷ []; kept = s.kept; active = s.active; passive = s.passive; lines = s.lines ++ line ∷ []; at = s.at; turns = s.turns; depth = s.depth; weight = s.weight }
+with_choice s line item = record { hyps = s.hyps; abbr = record { items = s.abbr.items ++ item ∷ [] }; abbr_at = s.abbr_at ++ length s.lines ∷ []; kept = s.kept; fronts = s.fronts; active = s.active; passive = s.passive; lines = s.lines ++ line ∷ []; at = s.at; turns = s.turns; depth = s.depth; weight = s.weight }
 
--- the search with a kept clause more, which line n has, and which is passive
-abbrev pub with_clause : Search → Clause → ℕ → ℕ → Search
-with_clause s k n weight = record { hyps = s.hyps; abbr = s.abbr; abbr_at = s.abbr_at; kept = s.kept ++ k ∷ []; active = s.active; passive = s.passive ++ record { number = length s.kept; weight = weight } ∷ []; lines = s.lines; at = s.at ++ n ∷ []; turns = s.turns; depth = s.depth; weight = s.weight }
+-- the search with a kept clause more, which has that front, which line n has, and which is passive
+abbrev pub with_clause : Search → Clause → Option Front → ℕ → ℕ → Search
+with_clause s k f n weight = record { hyps = s.hyps; abbr = s.abbr; abbr_at = s.abbr_at; kept = s.kept ++ k ∷ []; fronts = s.fronts ++ f ∷ []; active = s.active; passive = s.passive ++ record { number = length s.kept; weight = weight } ∷ []; lines = s.lines; at = s.at ++ n ∷ []; turns = s.turns; depth = s.depth; weight = s.weight }
 
 -- the entries without those with n numbers from `first` on
 abbrev pub without_range : ℕ → ℕ → List Entry → List Entry
@@ -46,7 +47,7 @@ AreThere first (suc n) es = IsTrue (has_number first es) × AreThere (suc first)
 
 -- how much a search has
 abbrev pub mark_of : Search → Mark
-mark_of s = record { lines = length s.lines; abbr = length s.abbr.items; abbr_at = length s.abbr_at; at = length s.at; kept = length s.kept }
+mark_of s = record { lines = length s.lines; abbr = length s.abbr.items; abbr_at = length s.abbr_at; at = length s.at; fronts = length s.fronts; kept = length s.kept }
 
 -- there is so much in the search
 pub record Reaches (s : Search) (m : Mark) : Type 0 where
@@ -54,13 +55,14 @@ pub record Reaches (s : Search) (m : Mark) : Type 0 where
   pub abbr : m.abbr ≤ length s.abbr.items
   pub abbr_at : m.abbr_at ≤ length s.abbr_at
   pub at : m.at ≤ length s.at
+  pub fronts : m.fronts ≤ length s.fronts
   pub kept : m.kept ≤ length s.kept
   pub few : length s.kept < 2 ^ 32
   pub there : AreThere m.kept (length s.kept - m.kept) s.passive
 
 -- what is left of it
 abbrev pub cut_to : Mark → Search → Search
-cut_to m s = record { hyps = s.hyps; abbr = record { items = take m.abbr s.abbr.items }; abbr_at = take m.abbr_at s.abbr_at; kept = take m.kept s.kept; active = s.active; passive = without_range m.kept (length s.kept - m.kept) s.passive; lines = take m.lines s.lines; at = take m.at s.at; turns = s.turns; depth = s.depth; weight = s.weight }
+cut_to m s = record { hyps = s.hyps; abbr = record { items = take m.abbr s.abbr.items }; abbr_at = take m.abbr_at s.abbr_at; kept = take m.kept s.kept; fronts = take m.fronts s.fronts; active = s.active; passive = without_range m.kept (length s.kept - m.kept) s.passive; lines = take m.lines s.lines; at = take m.at s.at; turns = s.turns; depth = s.depth; weight = s.weight }
 
 -- the clause of a bank reads as this
 pub record IsClauseIn (c : Contents) (k : Clause) (t : ClauseTree) : Type 0 where

@@ -21,6 +21,7 @@ pub record Grows (old new : Search) : Type 0 where
   pub abbr_at : IsLonger old.abbr_at new.abbr_at
   pub lines : IsLonger old.lines new.lines
   pub at : IsLonger old.at new.at
+  pub fronts : IsLonger old.fronts new.fronts
   pub active : new.active ≡ old.active
   pub turns : new.turns ≡ old.turns
   pub depth : new.depth ≡ old.depth

@@ -13,6 +13,7 @@ use Rattle.leo_kernel.specs.Symbols.{abbreviation_of}
 use Rattle.leo_clausify.specs.Choosing.{AreInOrder}
 use Rattle.leo_clausify.specs.Leaves.{choice_line}
 use Rattle.leo_clausify.specs.Splitting.{AreNormal}
+use Rattle.leo_keep.specs.Fronts.{AreFronts}
 use Rattle.leo_keep.specs.Outcomes.{AreTypedIn}
 use Rattle.leo_passive.specs.Entries.{Entry, AreBelow}
 use Rattle.leo_turn.specs.declared.search.Search.{Search}
@@ -106,6 +107,7 @@ pub record IsSearch (c : Contents) (s : Search) : Type 0 where
   pub choice_lines : HaveChoices (lines_of c s) s.abbr_at (choices_of c s)
   pub rising : IsRising s.abbr_at
   pub typed : AreTypedIn c s.kept
+  pub fronts : AreFronts c s.kept s.fronts
   pub normal : AreNormalIn c s.kept
   pub few : length s.kept ≤ 200000
   pub clause_lines : HaveClauses (lines_of c s) s.at (kept_of c s)

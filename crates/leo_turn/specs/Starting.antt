@@ -9,7 +9,7 @@ use Rattle.leo_turn.specs.Turns.{stock_of}
 
 -- the search without a line and without a clause
 abbrev pub empty_search : List ℕ → ℕ → ℕ → Search
-empty_search hypotheses depth weight = record { hyps = hypotheses; abbr = record { items = [] }; abbr_at = []; kept = []; active = []; passive = []; lines = []; at = []; turns = 0; depth = depth; weight = weight }
+empty_search hypotheses depth weight = record { hyps = hypotheses; abbr = record { items = [] }; abbr_at = []; kept = []; fronts = []; active = []; passive = []; lines = []; at = []; turns = 0; depth = depth; weight = weight }
 
 -- the line that assumes a hypothesis came to the journal
 pub record IsAssumed (b c : Contents) (old new : Search) (t : ℕ) : Type 0 where
@@ -19,4 +19,4 @@ pub record IsAssumed (b c : Contents) (old new : Search) (t : ℕ) : Type 0 wher
 
 -- the search with this passive clause as an active one, a turn later
 abbrev pub with_given : Search → ℕ → Search
-with_given s given = record { hyps = s.hyps; abbr = s.abbr; abbr_at = s.abbr_at; kept = s.kept; active = s.active ++ given ∷ []; passive = without given s.passive; lines = s.lines; at = s.at; turns = s.turns + 1; depth = s.depth; weight = s.weight }
+with_given s given = record { hyps = s.hyps; abbr = s.abbr; abbr_at = s.abbr_at; kept = s.kept; fronts = s.fronts; active = s.active ++ given ∷ []; passive = without given s.passive; lines = s.lines; at = s.at; turns = s.turns + 1; depth = s.depth; weight = s.weight }

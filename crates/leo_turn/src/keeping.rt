@@ -14,19 +14,27 @@ use crate::journal::{append_records, with_number};
 use crate::search::Search;
 use leo_clause::{Clause, weight};
 use leo_clausify::Leaf;
-use leo_keep::{Outcome, outcome};
+use leo_keep::{Front, Outcome, front_of, outcome};
 use leo_terms::Bank;
 use std::alloc::{AllocError, Global};
 
-/// Puts a clause, which the line has, at the end of the kept clauses, and among the passive ones with its weight.
-fn keep(search: &mut Search, clause: Clause, line: u64, weight: u64) -> Result<(), AllocError>
+/// Puts a clause with this front, which the line has, at the end of the kept clauses, and among the passive ones with its
+/// weight.
+fn keep(
+    search: &mut Search,
+    clause: Clause,
+    front: Option<Front>,
+    line: u64,
+    weight: u64,
+) -> Result<(), AllocError>
     requires few { length search.old.kept < 200000 }
     requires below { AreBelow (length search.old.kept) search.old.passive }
-    ensures kept { OnOk result (search.new ≡ with_clause search.old clause line weight) }
+    ensures kept { OnOk result (search.new ≡ with_clause search.old clause front line weight) }
     ensures longer { Grows search.old search.new }
 {
     let number = search.kept.clauses().len() as u32;
     search.at.push(line)?;
+    search.fronts.push(front)?;
     search.passive.add(number, weight)?;
     match search.kept.add(clause) {
         Ok(_) => Ok(()),
@@ -53,11 +61,12 @@ fn keep_leaf(
 {
     let clause = leaf.clause.copy(alloc)?;
     let weight = weight(bank, &clause);
+    let front = front_of(bank, &clause);
     let first = with_number(alloc, search.abbr_at.as_slice(), start)?;
     let records = leaf.records.as_slice();
     append_records(alloc, bank, &mut search.lines, first.as_slice(), records)?;
     let line = search.lines.len() as u64 - 1;
-    keep(search, clause, line, weight)?;
+    keep(search, clause, front, line, weight)?;
     Ok(())
 }
 
@@ -86,7 +95,14 @@ fn take_leaf(
     ensures same { IfOk result (λ _. HasSameSymbols bank.now search.old search.new) }
     ensures longer { Grows search.old search.new }
 {
-    let found = outcome(alloc, bank, &search.kept, &leaf.clause, limit)?;
+    let found = outcome(
+        alloc,
+        bank,
+        &search.kept,
+        search.fronts.as_slice(),
+        &leaf.clause,
+        limit,
+    )?;
     if !is_kept(found) {
         return Ok(());
     }

@@ -14,6 +14,7 @@ pub(crate) struct Mark {
     abbr: usize,
     abbr_at: usize,
     at: usize,
+    fronts: usize,
     pub kept: u32,
 }
 
@@ -27,6 +28,7 @@ pub(crate) fn marked(search: &Search) -> Mark
         abbr: search.abbr.items.len(),
         abbr_at: search.abbr_at.len(),
         at: search.at.len(),
+        fronts: search.fronts.len(),
         kept: search.kept.clauses().len() as u32,
     }
 }
@@ -58,6 +60,7 @@ pub(crate) fn cut(search: &mut Search, mark: Mark)
     shorten(&mut search.abbr.items, mark.abbr);
     shorten(&mut search.abbr_at, mark.abbr_at);
     shorten(&mut search.at, mark.at);
+    shorten(&mut search.fronts, mark.fronts);
     let count = search.kept.clauses().len() as u32;
     take_out(&mut search.passive, mark.kept, count);
     search.kept.cut(mark.kept);

@@ -2,7 +2,7 @@
 
 use leo_clause::{Abbr, StepRecord};
 use leo_items::Items;
-use leo_keep::Kept;
+use leo_keep::{Front, Kept};
 use leo_passive::Passive;
 use leo_terms::TermId;
 
@@ -17,6 +17,8 @@ pub struct Search {
     pub abbr_at: Items<u64>,
     /// The kept clauses.
     pub kept: Kept,
+    /// What quick tests know of each of them.
+    pub fronts: Items<Option<Front>>,
     /// The numbers of the active clauses, in the order in which they were given.
     pub active: Items<u32>,
     /// The numbers of the passive clauses, with their weights.

@@ -31,6 +31,7 @@ fn empty(alloc: Global, hyps: &[TermId], depth: u8, weight: u16) -> Result<Searc
         },
         abbr_at: Items::new(alloc),
         kept,
+        fronts: Items::new(alloc),
         active: Items::new(alloc),
         passive,
         lines: Items::new(alloc),
