@@ -1,14 +1,13 @@
 -- Fronts of a list of clauses that grows, in a bank that grows. For callers.
-use Rattle.std.proofs.Common.{ℕ, suc, ◌≡◌, ◌∙◌, ◌<◌, ◌≤◌, List, [], ◌∷◌, ◌++◌, length, map, take, Option, Some, None, refl, sym, ap, arith}
-use Rattle.leo_terms.specs.Tree.{Tree}
+use Rattle.std.proofs.Common.{ℕ, ◌≡◌, ◌∙◌, ◌<◌, List, [], ◌∷◌, ◌++◌, length, Option, Some, None, sym, ap, arith}
 use Rattle.leo_terms.specs.Contents.{Contents, Extends, tree_at}
 use Rattle.leo_terms.proofs.CallerLemmas.{tree-kept}
 use Rattle.leo_clause.specs.declared.clause.Clause.{Clause}
 use Rattle.leo_clause.specs.declared.clause.Lit.{Lit}
-use Rattle.leo_clause.specs.Trees.{Literal, literal_at}
+use Rattle.leo_clause.specs.Trees.{literal_at}
 use Rattle.leo_clause.specs.Typed.{AreLiteralsOf, IsTypedIn}
 use Rattle.leo_keep.specs.declared.fronts.Front.{Front}
-use Rattle.leo_keep.specs.Fronts.{AreFronts, IsFront, StandsFirst}
+use Rattle.leo_keep.specs.Fronts.{AreFronts, IsFront}
 use Rattle.leo_keep.specs.Heads.{HasHeads, applied_head}
 use Rattle.leo_keep.specs.Outcomes.{AreTypedIn}
 

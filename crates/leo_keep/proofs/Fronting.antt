@@ -1,13 +1,12 @@
 -- Fronts of kept clauses.
-use Rattle.std.proofs.Common.{ℕ, zero, suc, ◌≡◌, ◌∙◌, ◌<◌, ◌≤◌, Bool, true, false, List, [], ◌∷◌, ◌++◌, length, map, slice_get, Option, Some, None, refl, sym, ap, subst, arith}
+use Rattle.std.proofs.Common.{ℕ, zero, suc, ◌≡◌, ◌∙◌, ◌<◌, List, [], ◌∷◌, length, map, slice_get, Option, Some, None, refl, sym, ap, arith}
 use Rattle.leo_terms.specs.Contents.{Contents}
 use Rattle.leo_clause.specs.declared.clause.Clause.{Clause}
 use Rattle.leo_clause.specs.declared.clause.Lit.{Lit}
-use Rattle.leo_clause.specs.Trees.{Literal, literal_at, clause_at}
+use Rattle.leo_clause.specs.Trees.{literal_at}
 use Rattle.leo_keep.specs.declared.fronts.Front.{Front}
-use Rattle.leo_keep.specs.Fronts.{AreFronts, IsFront, IsFrontIn, IsNoCopy, SendsNone, StandsFirst}
-use Rattle.leo_keep.specs.Heads.{HasHeads, HaveHeads, NeverAmong, NeverSend}
-use Rattle.leo_keep.specs.Subsumption.{Subsumes}
+use Rattle.leo_keep.specs.Fronts.{AreFronts, IsFront, IsFrontIn, IsNoCopy, SendsNone}
+use Rattle.leo_keep.specs.Heads.{NeverAmong, NeverSend}
 use Rattle.leo_keep.proofs.Sending.{first-never}
 
 -- the front of a clause of a list

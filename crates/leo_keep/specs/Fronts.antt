@@ -1,5 +1,5 @@
 -- What quick tests know of kept clauses: the first literal of each, and the heads of its sides.
-use Rattle.std.specs.Prelude.{ℕ, ◌≡◌, ◌<◌, List, [], ◌∷◌, length, map, Option, Some, None}
+use Rattle.std.specs.Prelude.{◌≡◌, ◌<◌, List, [], ◌∷◌, length, map, Option, Some, None}
 use Rattle.leo_terms.specs.Contents.{Contents}
 use Rattle.leo_clause.specs.declared.clause.Clause.{Clause}
 use Rattle.leo_clause.specs.declared.clause.Lit.{Lit}

@@ -1,5 +1,3 @@
-use Rattle.std.proofs.Common.{Some}
-use Rattle.leo_keep.specs.Fronts.{SendsNone}
 use Rattle.leo_keep.proofs.Fronting.{first-sends}
 use Rattle.leo_keep.proofs.Sending.{on-false}
 use Rattle.leo_keep.proofs.fronts.may_start.Goals as goal
