@@ -1,9 +1,8 @@
 -- Passive and active clauses in a turn.
-use Rattle.std.proofs.Common.{ℕ, zero, suc, ◌≡◌, ◌∙◌, ◌+◌, ◌-◌, ◌<◌, ◌≤◌, Bool, true, false, List, [], ◌∷◌, ◌++◌, length, map, slice_get, Some, refl, sym, ap, ap₂, subst, append-nil, eq-eqb, ne_eqb, ◌||◌, ◌⊎◌, inl, inr, arith}
-use Rattle.std.specs.Prelude.{nat_eq, not, filter, IsPermutation, slice_index_or}
+use Rattle.std.proofs.Common.{ℕ, zero, suc, ◌≡◌, ◌∙◌, ◌+◌, ◌<◌, ◌≤◌, Bool, true, false, List, [], ◌∷◌, ◌++◌, length, slice_get, Some, refl, sym, ap, ap₂, subst, eq-eqb, ne_eqb, ◌||◌, ◌⊎◌, inl, inr, arith}
+use Rattle.std.specs.Prelude.{nat_eq, IsPermutation}
 use Rattle.std.specs.List.{All}
 use Rattle.std.proofs.lemmas.List.Sorted.{All-permutation}
-use Rattle.std.proofs.lemmas.List.{map-append}
 use Rattle.std.proofs.lemmas.List.{append_assoc, length-append}
 use Rattle.std.proofs.lemmas.Bool.Decides.{nat_tests}
 use Rattle.leo_clause.specs.Trees.{ClauseTree}
@@ -11,7 +10,6 @@ use Rattle.leo_passive.specs.Entries.{Entry, AreBelow, without, has_number}
 use Rattle.leo_turn.specs.Growth.{AreNext}
 use Rattle.leo_turn.specs.Searches.{AreAllBelow, AreShared, HaveWeights, numbers_of, passive_weight, times}
 use Rattle.leo_turn.specs.Turns.{entries}
-use Rattle.leo_turn.proofs.Lists.{get-last}
 
 -- the entries of clauses that came are those of their numbers and weights
 get-front-last : (front : List ClauseTree) (k : ClauseTree) (ks : List ClauseTree) → slice_get (front ++ k ∷ ks) (length front) ≡ Some k

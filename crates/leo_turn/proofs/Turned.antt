@@ -1,12 +1,12 @@
 -- What one turn makes of a search.
-use Rattle.std.proofs.Common.{ℕ, suc, ◌≡◌, ◌∙◌, ◌+◌, ◌-◌, ◌<◌, ◌≤◌, Bool, true, false, List, [], ◌∷◌, ◌++◌, length, map, slice_get, Some, refl, sym, ap, subst, eq-eqb, arith}
+use Rattle.std.proofs.Common.{ℕ, suc, ◌≡◌, ◌∙◌, ◌+◌, ◌-◌, ◌≤◌, Bool, true, false, List, [], ◌∷◌, ◌++◌, length, map, sym, ap, subst, eq-eqb, arith}
 use Rattle.std.specs.Prelude.{nat_eq, ◌%◌, OnErr, Result, Ok, Err}
 use Rattle.std.specs.List.{Contains}
 use Rattle.std.proofs.lemmas.List.{map-append, length-append}
 use Rattle.std.proofs.lemmas.List.Folds.{list_any_at}
 use Rattle.leo_terms.specs.Contents.{Contents, Extends}
 use Rattle.leo_clause.specs.Trees.{ClauseTree, clause_at}
-use Rattle.leo_passive.specs.Entries.{Entry, IsOldest, IsLightest, has_number, without}
+use Rattle.leo_passive.specs.Entries.{Entry, has_number, without}
 use Rattle.leo_turn.specs.declared.search.Search.{Search}
 use Rattle.leo_turn.specs.Growth.{AreNext, Grows}
 use Rattle.leo_turn.specs.Searches.{HaveWeights, IsSearch, kept_of}
@@ -29,6 +29,7 @@ search-given c s given h has = record {
   choice_lines = h.choice_lines;
   rising = h.rising;
   typed = h.typed;
+  fronts = h.fronts;
   normal = h.normal;
   few = h.few;
   clause_lines = h.clause_lines;

@@ -19,7 +19,7 @@ pub returns-in_err-append_records-clause-longer : goal.returns-in_err-append_rec
 returns-in_err-append_records-clause-longer c = grows-lines c.args.search.now c.append_records.new.lines c.append_records.ensures.longer
 
 pub returns-clause-kept : goal.returns-clause-kept
-returns-clause-kept c = rw (c.in_ok-keep.ensures.kept, c.in_ok-clause.ensures, c.len.ensures) (kept-leaf c.args.bank.now c.args.search.now c.args.start c.weight-weight.result c.args.leaf.now c.front-front_of.result c.append_records.new.lines c.requires.search (rw c.in_ok-clause.ensures at c.front-front_of.ensures) c.requires.few c.requires.leaf (rw c.as_slice-records.ensures at c.in_ok-append_records.ensures.appended) c.append_records.ensures.longer (c.weight-weight.ensures ∙ ap (λ (k : Clause). passive_weight (clause_at c.args.bank.now k)) c.in_ok-clause.ensures))
+returns-clause-kept c = rw (c.in_ok-keep.ensures.kept, c.in_ok-clause.ensures, c.len.ensures) (kept-leaf c.args.bank.now c.args.search.now c.args.start c.weight-weight.result c.args.leaf.now c.front_of-front.result c.append_records.new.lines c.requires.search (rw c.in_ok-clause.ensures at c.front_of-front.ensures) c.requires.few c.requires.leaf (rw c.as_slice-records.ensures at c.in_ok-append_records.ensures.appended) c.append_records.ensures.longer (c.weight-weight.ensures ∙ ap (λ (k : Clause). passive_weight (clause_at c.args.bank.now k)) c.in_ok-clause.ensures))
 
 pub returns-in_err-keep-clause-longer : goal.returns-in_err-keep-clause-longer
 returns-in_err-keep-clause-longer c = grows-trans (grows-lines c.args.search.now c.append_records.new.lines c.append_records.ensures.longer) c.keep.ensures.longer

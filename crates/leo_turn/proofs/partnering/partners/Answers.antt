@@ -1,4 +1,4 @@
-use Rattle.std.proofs.Common.{rules, ◌∙◌, ◌∷◌, ◌++◌, ap, subst, sym, List, ℕ}
+use Rattle.std.proofs.Common.{rules, subst, List, ℕ}
 use Rattle.std.specs.Prelude.{IsPermutation}
 use Rattle.std.proofs.lemmas.List.Sorted.{IsNonDecreasingBy-from_sort}
 use Rattle.leo_turn.proofs.Sorting.{partners-sorted}
