@@ -7,7 +7,7 @@ use Rattle.leo_clause.specs.declared.clause.Lit.{Lit}
 use Rattle.leo_clause.specs.Trees.{literal_at}
 use Rattle.leo_clause.specs.Typed.{AreLiteralsOf, IsTypedIn}
 use Rattle.leo_keep.specs.declared.fronts.Front.{Front}
-use Rattle.leo_keep.specs.Fronts.{AreFronts, IsFront}
+use Rattle.leo_keep.specs.Fronts.{AreFronts, IsFront, second_or_first}
 use Rattle.leo_keep.specs.Heads.{HasHeads, applied_head}
 use Rattle.leo_keep.specs.Outcomes.{AreTypedIn}
 
@@ -19,6 +19,10 @@ fronts-added c (x ∷ ks) (y ∷ fs) k f h g = (h.0, fronts-added c ks fs k f h.
 
 first-within : (c : Contents) (l : Lit) (rest lits : List Lit) → AreLiteralsOf c lits → lits ≡ l ∷ rest → (l.left < length c.terms) × (l.right < length c.terms)
 first-within c l rest lits h e = (let g : AreLiteralsOf c (l ∷ rest) = rw e at h in (g.0, g.1))
+
+second-within : (c : Contents) (l : Lit) (rest lits : List Lit) → AreLiteralsOf c lits → lits ≡ l ∷ rest → ((second_or_first l rest).left < length c.terms) × ((second_or_first l rest).right < length c.terms)
+second-within c l [] lits h e = first-within c l [] lits h e
+second-within c l (m ∷ ms) lits h e = (let g : AreLiteralsOf c (l ∷ m ∷ ms) = rw e at h in (g.2.0, g.2.1))
 
 -- a bank that grew
 module _ {c d : Contents} (e : Extends c d) where
@@ -38,7 +42,8 @@ module _ {c d : Contents} (e : Extends c d) where
   front-grows k None t h = h
   front-grows k (Some f) t h =
       let w = first-within c f.first h.rest k.lits t.of_bank.literals_of h.begins in
-      record { rest = h.rest; begins = h.begins; heads = heads-grow f.first f.heads w.0 w.1 h.heads }
+      let v = second-within c f.first h.rest k.lits t.of_bank.literals_of h.begins in
+      record { rest = h.rest; begins = h.begins; heads = heads-grow f.first f.heads w.0 w.1 h.heads; second = heads-grow (second_or_first f.first h.rest) f.second v.0 v.1 h.second; few = h.few }
 
   pub fronts-grow : (ks : List Clause) (fs : List (Option Front)) → AreTypedIn c ks → AreFronts c ks fs → AreFronts d ks fs
   fronts-grow [] [] t h = tt

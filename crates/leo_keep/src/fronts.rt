@@ -1,20 +1,36 @@
 //! What quick tests know of a kept clause, so that most of them need not be looked at.
 
-ghost use Rattle.std.specs.Prelude.{◌≡◌, ◌<◌, length, IfSome};
+ghost use Rattle.std.specs.Prelude.{◌≡◌, Some};
 ghost use Rattle.std.specs.Bool.{OnFalse};
 ghost use Rattle.leo_clause.specs.Typed.{AreLiteralsOf, IsClauseOf};
-ghost use Rattle.leo_keep.specs.Fronts.{IsFront, IsFrontIn, IsNoCopy, SendsNone};
+ghost use Rattle.leo_keep.specs.Fronts.{IsFront, IsFrontIn, IsNoCopy, SendsNone, second_or_first};
 
 use crate::heads::{heads_of_literal, may_be_among};
+use crate::subsuming::MOST_LITERALS;
 use leo_clause::{Clause, Lit};
 use leo_terms::Bank;
 
-/// The first literal of a clause, and the heads of its sides as a literal of their own. A head is what is applied to
-/// arguments, one after the other.
+/// What quick tests know of a clause that has literals. A head is what is applied to arguments, one after the other.
 #[derive(Clone, Copy, Debug, PartialEq, Eq)]
 pub struct Front {
+    /// The first literal.
     pub first: Lit,
+    /// A literal of the heads of its sides.
     pub heads: Lit,
+    /// The same of the second literal, or of the first if there is no other.
+    pub second: Lit,
+    /// Whether the literals are few enough to subsume a clause.
+    pub few: bool,
+}
+
+/// The literal behind the first one, or the first if there is no other.
+fn second_of<'a>(first: &'a Lit, rest: &'a [Lit]) -> &'a Lit
+    ensures { result.now ≡ second_or_first first.now rest.now }
+{
+    match rest.first() {
+        Some(second) => second,
+        None => first,
+    }
 }
 
 /// What quick tests know of a clause; nothing of the one without literals.
@@ -22,11 +38,13 @@ pub fn front_of(bank: &Bank, clause: &Clause) -> Option<Front>
     requires { IsClauseOf bank.now clause.now }
     ensures { IsFront bank.now clause.now result }
 {
-    let first = clause.lits.as_slice().first()?;
-    let heads = heads_of_literal(bank, first);
+    let lits = clause.lits.as_slice();
+    let (first, rest) = lits.split_first()?;
     Some(Front {
         first: *first,
-        heads,
+        heads: heads_of_literal(bank, first),
+        second: heads_of_literal(bank, second_of(first, rest)),
+        few: lits.len() <= MOST_LITERALS,
     })
 }
 
@@ -41,6 +59,21 @@ pub(crate) fn may_be_copy(front: &Option<Front>, clause: &Clause) -> bool
     }
 }
 
+/// Whether the first two literals of a clause with this front may be sent among literals with these heads.
+fn may_send_both(bank: &Bank, front: &Front, heads: &[Lit]) -> bool
+    requires front { IsFrontIn bank.now (Some front.now) }
+    requires heads { AreLiteralsOf bank.now heads.now }
+    ensures { OnFalse result (SendsNone bank.now (Some front.now) heads.now) }
+{
+    if !front.few {
+        return false;
+    }
+    if !may_be_among(bank, &front.heads, heads) {
+        return false;
+    }
+    may_be_among(bank, &front.second, heads)
+}
+
 /// Whether a clause with this front may be sent among literals with these heads.
 pub(crate) fn may_start(bank: &Bank, front: &Option<Front>, heads: &[Lit]) -> bool
     requires front { IsFrontIn bank.now front.now }
@@ -48,7 +81,7 @@ pub(crate) fn may_start(bank: &Bank, front: &Option<Front>, heads: &[Lit]) -> bo
     ensures { OnFalse result (SendsNone bank.now front.now heads.now) }
 {
     match front {
-        Some(front) => may_be_among(bank, &front.heads, heads),
+        Some(front) => may_send_both(bank, front, heads),
         None => false,
     }
 }

@@ -14,7 +14,7 @@ use leo_terms::{Bank, TermId, TyId};
 use std::alloc::{AllocError, Global};
 
 /// How many literals a clause has at most that subsumes others.
-const MOST_LITERALS: usize = 3;
+pub(crate) const MOST_LITERALS: usize = 3;
 
 /// Binds variables so that the literals of a pattern are among others, as they are or turned. Where that cannot be, the
 /// bindings are as before.
