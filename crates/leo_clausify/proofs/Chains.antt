@@ -1,5 +1,5 @@
 -- Chains of steps, and the lines that they become.
-use Rattle.std.proofs.Common.{ℕ, zero, suc, ◌≡◌, ◌+◌, ◌<◌, List, [], ◌∷◌, ◌++◌, length, take, slice_get, Some, refl, ◌∙◌, ap, append-nil, append_assoc, arith}
+use Rattle.std.proofs.Common.{ℕ, zero, suc, ◌≡◌, ◌+◌, ◌<◌, true, List, [], ◌∷◌, ◌++◌, length, take, slice_get, Some, refl, ◌∙◌, ap, append-nil, append_assoc, arith}
 use Rattle.std.proofs.lemmas.List.{length-append}
 use Rattle.leo_clause.specs.Choices.{Choice}
 use Rattle.leo_clause.specs.Trees.{ClauseTree}
@@ -9,10 +9,12 @@ use Rattle.leo_kernel.specs.Symbols.{abbreviation_of, abbreviation_at}
 use Rattle.leo_clausify.specs.Branches.{Precedes}
 use Rattle.leo_clausify.specs.Leaves.{last_clause}
 use Rattle.leo_clausify.specs.Moves.{TreeStep, HaveChoices, Follows, IsChain, lines_after}
+use Rattle.leo_clausify.specs.Origins.{Origin, IsClauseFrom, AreChoicesFrom, AreLinesFrom}
 
 pub follows-later : (choices later : List Choice) → Precedes choices later → (parent : ClauseTree) (s : TreeStep) → Follows choices parent s → Follows later parent s
 follows-later choices later before parent s f = record {
   accepted = λ lines p within is h. f.accepted lines p within is (record { within = λ n k e. h.within n k (before n k e); abbreviated = λ n k e. h.abbreviated n k (before n k e) });
+  origin = λ o z h k p. f.origin o z h (λ n j e. k n j (before n j e)) p;
 }
 
 pub chain-later : (choices later : List Choice) → Precedes choices later → (start end : ClauseTree) (ss : List TreeStep) → IsChain choices start ss end → IsChain later start ss end
@@ -59,3 +61,8 @@ chain-accepted choices start end (s ∷ ss) first p long is h chain (suc n) step
 pub chain-last : (choices : List Choice) (start end : ClauseTree) (ss : List TreeStep) (p : ℕ) → IsChain choices start ss end → last_clause start (lines_after p ss) ≡ end
 chain-last choices start end [] p h = h
 chain-last choices start end (s ∷ ss) p h = chain-last choices s.clause end ss (p + 1) h.1
+
+-- their base types and symbols are those of the start and of the choice symbols
+pub chain-from : (choices : List Choice) (start end : ClauseTree) (ss : List TreeStep) (p : ℕ) → IsChain choices start ss end → (o : Origin) → o.has_base 0 ≡ true → IsClauseFrom o start → AreChoicesFrom o choices → AreLinesFrom o (lines_after p ss)
+chain-from choices start end [] p chain o z h k = tt
+chain-from choices start end (s ∷ ss) p chain o z h k = let l = chain.0.origin o z h k p in (l, chain-from choices s.clause end ss (p + 1) chain.1 o z l.0 k)

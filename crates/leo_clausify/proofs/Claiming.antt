@@ -26,6 +26,7 @@ use Rattle.leo_clausify.specs.Moves.{Follows}
 use Rattle.leo_clausify.specs.Ways.{kind_chosen}
 use Rattle.leo_clausify.proofs.Applying.{IsGood, function-type, function-applied, function-good, applied-typed, terms-variables, applied-over}
 use Rattle.leo_clausify.proofs.Following.{there, literal-there, literal-within, value-typed}
+use Rattle.leo_clausify.proofs.Origins.{claim-from, literal-at, placed-from, said-from}
 use Rattle.leo_clausify.proofs.Placing.{no-fresh, typed-placed}
 use Rattle.leo_clausify.proofs.Reducts.{over-lifted, over-normal, normal-typed, normal-type}
 
@@ -161,4 +162,8 @@ module _ (parent : ClauseTree) (i : ℕ) (c : SimpleType) (p : Tree) (v : Bool) 
       symbols = there (literal_of lines q i) l (λ j. LogicHasSymbol lines concluded i (Some n) j (kind_chosen v)) (literal-there lines q i parent l same e) (has-symbol lines n v refl (given.abbreviated n k at) h);
       shape = there (literal_of lines q i) l (λ j. LogicConcludes lines (clause_of lines q) i (Some n) j (kind_chosen v) concluded) (literal-there lines q i parent l same e) (rw same (concludes lines n v refl (given.abbreviated n k at) h));
     };
+    origin = λ o z g j q.
+        let side = literal-at o z parent.literals i l g.1 e in
+        let parts = claim-from o z (kind_chosen v) l c p v h side.0 in
+        (placed-from o z parent i [] (said ∷ []) g tt (said-from o z parent.variables c p v k g.0 parts.1 (j n k at)), tt);
   }

@@ -22,10 +22,11 @@ use Rattle.leo_clausify.specs.declared.leaves.Leaf.{Leaf}
 use Rattle.leo_clausify.specs.Agendas.{SplitsAll, done, EachBranch, clauses_of, IsUnderWay, IsRunning}
 use Rattle.leo_clausify.specs.Branches.{IsBranch, Leads}
 use Rattle.leo_clausify.specs.Leaves.{choice_line, first_lines, last_clause, IsLeafOf, leaf_clause}
+use Rattle.leo_clausify.specs.Origins.{AreLinesFrom}
 use Rattle.leo_clausify.specs.Moves.{IsMoveOf, IsStepIn, AreStepsIn, HaveChoices, lines_after, move_rule, records_after, rule_for, step_at}
 use Rattle.leo_clausify.specs.Choosing.{AreInOrder}
 use Rattle.leo_clausify.specs.Splitting.{AreNormal, Splits}
-use Rattle.leo_clausify.proofs.Chains.{chain-accepted, chain-last}
+use Rattle.leo_clausify.proofs.Chains.{chain-accepted, chain-from, chain-last}
 use Rattle.leo_clausify.proofs.Giving.{length-map}
 use Rattle.leo_clausify.proofs.Remaining.{remains-first}
 
@@ -104,6 +105,7 @@ leaf-good c choices start p b e h l some = record {
       subst (AreAcceptedAfter (first_lines choices start rule)) (sym (lines-are c p b.steps)) a;
   some = (let n = records-length p b.steps in omega arith);
   ends = ap (last_clause start) (lines-are c p b.steps) ∙ chain-last choices start (clause_at c b.clause) (map (step_at c) b.steps) p l;
+  origin = λ o z g k. subst (AreLinesFrom o) (sym (lines-are c p b.steps)) (chain-from choices start (clause_at c b.clause) (map (step_at c) b.steps) p l o z g k);
 }
 
 pub leaves-good : (c : Contents) (choices : List Choice) (start : ClauseTree) (p : ℕ) (bs : List Branch) → p ≡ length choices → EachBranch (IsBranch c) bs → EachBranch (Leads c choices start) bs → EachBranch (λ b. 1 ≤ length b.steps) bs → (n : ℕ) (leaf : Leaf) → slice_get (map (leaf_of p) bs) n ≡ Some leaf → IsLeafOf c choices start leaf

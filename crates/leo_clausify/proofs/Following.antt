@@ -16,6 +16,7 @@ use Rattle.leo_kernel.specs.Steps.{Line, arrange, drop_literal, take_apart, conv
 use Rattle.leo_kernel.specs.Symbols.{LogicHasSymbol}
 use Rattle.leo_clausify.specs.Moves.{Follows}
 use Rattle.leo_clausify.specs.Splitting.{normal_literal, turned}
+use Rattle.leo_clausify.proofs.Origins.{placed-from, turned-from, literal-at, row-from, converted-from}
 use Rattle.leo_clausify.proofs.Placing.{over-more, literal-more, typed-placed, typed-at, no-fresh, same_literal-turned, among-placed}
 use Rattle.leo_clausify.proofs.Reducts.{over-normal, normal-type, normal-twice}
 
@@ -45,6 +46,7 @@ turned-follows choices parent i l e typed = record {
     symbols = tt;
     shape = rw is (append-nil parent.variables, among-placed parent.literals i l (turned l) e (same_literal-turned l));
   };
+  origin = λ o z h k p. (placed-from o z parent i [] (turned l ∷ []) h tt (turned-from o z l (literal-at o z parent.literals i l h.1 e)), tt);
 }
 
 -- a literal that is left out
@@ -58,6 +60,7 @@ omitted-follows choices parent i l e typed never = record {
     symbols = tt;
     shape = there (literal_of lines p i) l (λ k. NeverHolds k × (with_new parent i [] [] ≡ with_new (clause_of lines p) i [] [])) (literal-there lines p i parent l is e) (never, rw is refl);
   };
+  origin = λ o z h k p. (placed-from o z parent i [] [] h tt tt, tt);
 }
 
 -- a literal about a truth value
@@ -141,6 +144,7 @@ row-follows choices parent i kind l fresh new e typed w row = record {
     shape = there (literal_of lines p i) l (λ k. LogicConcludes lines (clause_of lines p) i None k kind (with_new parent i fresh new)) (literal-there lines p i parent l is e)
         (row-concludes (length parent.variables) kind l fresh new row lines (clause_of lines p) (with_new parent i fresh new) i l (rw is (record { fresh = fresh; new = new; row = row; concluded = refl })));
   };
+  origin = λ o z h k p. (let r = row-from o z (length parent.variables) kind l fresh new row (literal-at o z parent.literals i l h.1 e) in (placed-from o z parent i fresh new h r.0 r.1, tt));
 }
 
 -- normal forms
@@ -183,4 +187,5 @@ converted-follows choices c i fresh new typed h w = record {
     symbols = tt;
     shape = rw is (refl, converted-after (take i c.literals) (new ++ drop (suc i) c.literals) (map normal_literal new ++ drop (suc i) c.literals) (converted-normals new (drop (suc i) c.literals) w));
   };
+  origin = λ o z h k p. (converted-from o z c i fresh new h, tt);
 }

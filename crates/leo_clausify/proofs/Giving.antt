@@ -29,6 +29,7 @@ use Rattle.leo_clausify.specs.Giving.{AreGivenBy, placed_tree, some_tree}
 use Rattle.leo_clausify.specs.Moves.{Follows}
 use Rattle.leo_clausify.specs.Splitting.{AreNormal}
 use Rattle.leo_clausify.proofs.Branching.{get-map}
+use Rattle.leo_clausify.proofs.Origins.{distinct-from, numbered-from, given-from, from-placed_tree}
 use Rattle.leo_clausify.proofs.Placing.{same_literal-refl}
 
 -- lists with one item more
@@ -200,6 +201,7 @@ distinct-follows choices c typed = record {
     symbols = tt;
     shape = rw is (refl, firsts-among c.literals []);
   };
+  origin = λ o z h k p. ((h.0, distinct-from o z c.literals h.1), tt);
 }
 
 -- the variables numbered as they come
@@ -220,6 +222,7 @@ numbered-follows choices variables ls given typed l gives = record {
     symbols = tt;
     shape = rw is (literals-placed variables (firsts nat_eq [] (occurring_in ls)) given gives ls typed (AreSeen-met (occurring_in ls) []));
   };
+  origin = λ o z h k p. (numbered-from o z variables ls h.0 h.1, given-from o z (placed_tree (firsts nat_eq [] (occurring_in ls))) (from-placed_tree o z (firsts nat_eq [] (occurring_in ls))) variables given l gives h.0);
 }
 
 -- normal forms with other numbers

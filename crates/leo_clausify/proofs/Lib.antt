@@ -1,6 +1,7 @@
 pub mod Rows
 pub mod Placing
 pub mod Reducts
+pub mod Origins
 pub mod Following
 pub mod Chains
 pub mod Filling
@@ -20,3 +21,4 @@ pub mod Remaining
 pub mod UnderWay
 pub mod Stepping
 pub mod Ending
+pub mod SplitOrigins

@@ -1,5 +1,5 @@
 -- What `split` promises of its answer.
-use Rattle.std.specs.Prelude.{ℕ, ◌≡◌, ◌<◌, List, [], ◌∷◌, ◌++◌, length, map, slice_get, Some}
+use Rattle.std.specs.Prelude.{ℕ, ◌≡◌, ◌<◌, true, List, [], ◌∷◌, ◌++◌, length, map, slice_get, Some}
 use Rattle.leo_terms.specs.Tree.{type_of}
 use Rattle.leo_terms.specs.Contents.{Contents}
 use Rattle.leo_clause.specs.declared.choices.Abbr.{Abbr}
@@ -14,6 +14,7 @@ use Rattle.leo_kernel.specs.Steps.{StepRule, abbreviate, Line, line_at}
 use Rattle.leo_clausify.specs.declared.leaves.Leaf.{Leaf}
 use Rattle.leo_clausify.specs.declared.leaves.Split.{Split}
 use Rattle.leo_clausify.specs.declared.leaves.Split.TheVariants.{Clauses, Room}
+use Rattle.leo_clausify.specs.Origins.{Origin, IsClauseFrom, AreChoicesFrom, AreLinesFrom}
 use Rattle.leo_clausify.specs.Splitting.{AreNormal, Splits, Overflows}
 
 -- the line that abbreviates a choice symbol
@@ -29,7 +30,8 @@ abbrev pub last_clause : ClauseTree → List Line → ClauseTree
 last_clause c [] = c
 last_clause c (l ∷ ls) = last_clause l.clause ls
 
--- the clause is typed and in normal form, and its records are accepted and end in it
+-- the clause is typed and in normal form, and its records are accepted and end in it; each base type in them is `$o` or stands
+-- in the first clause or with the choice symbols, and each symbol stands there
 pub record IsLeafOf (c : Contents) (choices : List Choice) (start : ClauseTree) (leaf : Leaf) : Type 0 where
   pub typed : IsTypedIn c leaf.clause
   pub normal : AreNormal (clause_at c leaf.clause).literals
@@ -37,6 +39,7 @@ pub record IsLeafOf (c : Contents) (choices : List Choice) (start : ClauseTree) 
   pub accepted : (rule : StepRule) → AreAcceptedAfter (first_lines choices start rule) (map (line_at c) leaf.records)
   pub some : 0 < length leaf.records
   pub ends : last_clause start (map (line_at c) leaf.records) ≡ clause_at c leaf.clause
+  pub origin : (o : Origin) → o.has_base 0 ≡ true → IsClauseFrom o start → AreChoicesFrom o choices → AreLinesFrom o (map (line_at c) leaf.records)
 
 abbrev pub leaf_clause : Contents → Leaf → ClauseTree
 leaf_clause c leaf = clause_at c leaf.clause

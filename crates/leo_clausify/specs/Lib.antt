@@ -1,6 +1,8 @@
 pub mod Forms
 pub mod Choosing
+pub mod Origins
 pub mod Splitting
+pub mod Laws
 pub mod Leaves
 pub mod Ways
 pub mod Moves

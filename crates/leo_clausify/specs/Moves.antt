@@ -1,5 +1,5 @@
 -- The steps that lead from a clause to its leaves, each from the one before it. No public contract speaks of it.
-use Rattle.std.specs.Prelude.{ℕ, ◌≡◌, ◌+◌, ◌<◌, List, [], ◌∷◌, length, map, slice_get, Some}
+use Rattle.std.specs.Prelude.{ℕ, ◌≡◌, ◌+◌, ◌<◌, true, List, [], ◌∷◌, length, map, slice_get, Some}
 use Rattle.leo_terms.specs.Contents.{Contents, AreTerms, tree_at}
 use Rattle.leo_clause.specs.Choices.{Choice, symbol_of}
 use Rattle.leo_clause.specs.Trees.{ClauseTree, clause_at}
@@ -14,6 +14,7 @@ use Rattle.leo_kernel.specs.Symbols.{abbreviation_of}
 use Rattle.leo_clausify.specs.declared.moves.Move.{Move}
 use Rattle.leo_clausify.specs.declared.moves.Move.TheVariants as move
 use Rattle.leo_clausify.specs.declared.moves.Step.{Step}
+use Rattle.leo_clausify.specs.Origins.{Origin, IsClauseFrom, AreChoicesFrom, IsLineFrom}
 
 -- a clause, and the rule that gives it from the line with a number
 pub record TreeStep : Type 0 where
@@ -63,9 +64,11 @@ pub record HaveChoices (choices : List Choice) (lines : List Line) : Type 0 wher
   pub within : (n : ℕ) (k : Choice) → slice_get choices n ≡ Some k → n < length lines
   pub abbreviated : (n : ℕ) (k : Choice) → slice_get choices n ≡ Some k → abbreviation_of lines n ≡ Some (equal (symbol_of k) k.term)
 
--- from any line with the parent, among lines that abbreviate the symbols, the rule gives the clause
+-- from any line with the parent, among lines that abbreviate the symbols, the rule gives the clause; what is so of all base
+-- types and symbols of the parent and of the choice symbols is so of those of the step
 pub record Follows (choices : List Choice) (parent : ClauseTree) (s : TreeStep) : Type 0 where
   pub accepted : (lines : List Line) (p : ℕ) → p < length lines → clause_of lines p ≡ parent → HaveChoices choices lines → Accepts [] lines (record { clause = s.clause; rule = s.rule p })
+  pub origin : (o : Origin) → o.has_base 0 ≡ true → IsClauseFrom o parent → AreChoicesFrom o choices → (p : ℕ) → IsLineFrom o (record { clause = s.clause; rule = s.rule p })
 
 -- each step follows from the one before it, the first from the clause `start`, and the last is `end`
 abbrev pub IsChain : List Choice → ClauseTree → List TreeStep → ClauseTree → Type 0

@@ -5,6 +5,7 @@ mod agenda;
 mod branch;
 mod choosing;
 mod closing;
+pub mod laws;
 mod leaves;
 mod literals;
 mod moves;

@@ -21,6 +21,7 @@ use Rattle.leo_kernel.proofs.LinesGrowing.{lines-grow, lines-kept}
 use Rattle.leo_clausify.specs.declared.leaves.Leaf.{Leaf}
 use Rattle.leo_clausify.specs.Choosing.{AreInOrder}
 use Rattle.leo_clausify.specs.Leaves.{IsLeafOf, first_lines, last_clause, leaf_clause}
+use Rattle.leo_clausify.specs.Origins.{AreLinesFrom}
 use Rattle.leo_clausify.specs.Splitting.{AreNormal, Splits, Overflows}
 use Rattle.leo_clausify.proofs.Picks.{items-kept, lacks-new}
 use Rattle.leo_turn.specs.declared.search.Search.{Search}
@@ -105,6 +106,7 @@ leaf-grow {c} {d} e choices start leaf h =
       accepted = λ rule. subst (AreAcceptedAfter (first_lines choices start rule)) (sym lines) (h.accepted rule);
       some = h.some;
       ends = ap (last_clause start) lines ∙ h.ends ∙ sym clause;
+      origin = λ o z from choices_from. subst (AreLinesFrom o) (sym lines) (h.origin o z from choices_from);
     }
 
 each-leaf : (c : Contents) (s : Search) (n : ℕ) (leaves : List Leaf) → ((i : ℕ) (leaf : Leaf) → slice_get leaves i ≡ Some leaf → IsLeafAt c s n leaf) → AreLeavesOf c s n leaves
