@@ -1,3 +1,4 @@
+pub mod Origins
 pub mod Residues
 pub mod Between
 pub mod Steps

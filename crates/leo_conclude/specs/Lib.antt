@@ -1,4 +1,5 @@
 pub mod Conclusions
+pub mod Origins
 pub mod Leaving
 pub mod Deriving
 pub mod Results

@@ -22,3 +22,4 @@ mod BoundMaking
 mod BoundMembers
 mod Pairing
 mod Joined
+mod Origins

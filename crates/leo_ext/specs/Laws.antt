@@ -1,5 +1,5 @@
 -- What is so of the members of a clause.
-use Rattle.std.specs.Prelude.{ℕ, ◌≡◌, ◌<◌, List, [], ◌∷◌, length, slice_get, Some}
+use Rattle.std.specs.Prelude.{ℕ, ◌≡◌, ◌<◌, ◌≤◌, true, List, [], ◌∷◌, length, slice_get, Some}
 use Rattle.leo_terms.specs.Typing.{IsWellTyped}
 use Rattle.leo_clause.specs.Choices.{Choice}
 use Rattle.leo_clause.specs.Trees.{Literal, ClauseTree}
@@ -7,7 +7,9 @@ use Rattle.leo_clause.specs.Typed.{IsTyped}
 use Rattle.leo_kernel.specs.Acceptance.{AreAcceptedAfter}
 use Rattle.leo_kernel.specs.Steps.{StepRule}
 use Rattle.leo_clausify.specs.Leaves.{first_lines, last_clause}
+use Rattle.leo_unify.specs.Origins.{Origin, IsTermFrom}
 use Rattle.leo_conclude.specs.Leaving.{AreConstraints, AreNumbersOf}
+use Rattle.leo_conclude.specs.Origins.{AreLinesFrom, IsClauseFrom}
 use Rattle.leo_ext.specs.Members.{Member}
 use Rattle.leo_ext.specs.Unary.{AreUnary}
 
@@ -30,3 +32,19 @@ UnaryMembersHaveLines = (known : ℕ) (choices : List Choice) (c : ClauseTree) (
 abbrev pub UnaryPairsAreNegative : Type 0
 UnaryPairsAreNegative = (known : ℕ) (choices : List Choice) (c : ClauseTree) (later : List Choice) (members : List Member) → AreUnary known choices c later members → (n : ℕ) (m : Member) → slice_get members n ≡ Some m
     → AreConstraints (last_clause c m.lines).literals m.pairs × AreNumbersOf (last_clause c m.lines).literals m.pairs
+
+-- the choice symbols of a list are among these
+abbrev pub AreNamed : Origin → List Choice → Type 0
+AreNamed o [] = Unit {0}
+AreNamed o (k ∷ choices) = (o.has_symbol k.number ≡ true) × AreNamed o choices
+
+-- each base type in the lines of a member is `$o` or stands in the clause, and each symbol in them stands there or is a choice
+-- symbol of the list as it is left: a test that says yes to all of these says yes to all in the lines
+abbrev pub UnaryMembersAreFromClause : Type 0
+UnaryMembersAreFromClause = (known : ℕ) (choices : List Choice) (c : ClauseTree) (later : List Choice) (members : List Member) → AreUnary known choices c later members → (o : Origin) → o.has_base 0 ≡ true → IsClauseFrom o c → AreNamed o later → (n : ℕ) (m : Member) → slice_get members n ≡ Some m
+    → AreLinesFrom o m.lines
+
+-- each base type in the term of a choice symbol that is new is `$o` or stands in the clause, and each symbol in it stands there
+abbrev pub UnaryChoicesAreFromClause : Type 0
+UnaryChoicesAreFromClause = (known : ℕ) (choices : List Choice) (c : ClauseTree) (later : List Choice) (members : List Member) → AreUnary known choices c later members → (o : Origin) → o.has_base 0 ≡ true → IsClauseFrom o c → (n : ℕ) (k : Choice) → length choices ≤ n → slice_get later n ≡ Some k
+    → IsTermFrom o k.term
