@@ -31,3 +31,4 @@ mod Weighing
 mod Worked
 mod Replaying
 mod Singular
+mod OneTurn

@@ -66,7 +66,7 @@ cut-back old new m n cs os h e f a b =
     ∙ ap (make old.problem old.clauses old.origins old.passive) h.turns
 
 -- the start
-fit-all : (sorts : ℕ) (syms : List FoSym) (cs : List FoClause) → AllByRecursion (IsClause sorts syms) cs → AllByRecursion (IsFit syms) cs
+pub fit-all : (sorts : ℕ) (syms : List FoSym) (cs : List FoClause) → AllByRecursion (IsClause sorts syms) cs → AllByRecursion (IsFit syms) cs
 fit-all sorts syms [] h = tt
 fit-all sorts syms (c ∷ cs) h = (record { few = h.0.lits_count; sorted = h.0.lits }, fit-all sorts syms cs h.1)
 

@@ -15,3 +15,4 @@ pub mod Sifting
 pub mod Walks
 pub mod Working
 pub mod Replaying
+pub mod Unique
