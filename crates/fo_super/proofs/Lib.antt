@@ -32,3 +32,5 @@ mod Worked
 mod Replaying
 mod Singular
 mod OneTurn
+mod Masks
+mod Noted

@@ -16,3 +16,5 @@ pub mod Walks
 pub mod Working
 pub mod Replaying
 pub mod Unique
+pub mod Marks
+pub mod Notes
