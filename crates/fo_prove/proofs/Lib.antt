@@ -9,3 +9,4 @@ mod Finishing
 mod Origins
 mod Replaying
 mod Refuting
+mod OneAnswer

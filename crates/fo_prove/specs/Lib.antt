@@ -7,3 +7,4 @@ pub mod Answers
 pub mod Proving
 pub mod Endings
 pub mod Replayed
+pub mod Unique

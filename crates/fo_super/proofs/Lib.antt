@@ -31,3 +31,6 @@ mod Weighing
 mod Worked
 mod Replaying
 mod Singular
+mod OneTurn
+mod Masks
+mod Noted

@@ -7,15 +7,18 @@ use Rattle.fo_text.specs.declared.problem.FoClause.{FoClause}
 use Rattle.fo_text.specs.declared.problem.FoProblem.{FoProblem}
 use Rattle.fo_text.specs.Problems.{IsClause, IsProblem}
 use Rattle.fo_text.specs.Words.{most_number}
+use Rattle.fo_super.specs.declared.notes.FoNotes.{FoNotes}
 use Rattle.fo_super.specs.declared.state.FoOrigin.{FoOrigin}
 use Rattle.fo_super.specs.declared.state.FoState.{FoState}
 use Rattle.fo_super.specs.Members.{Member, actives, factorings, meetings, members, numbered_from, resolutions}
+use Rattle.fo_super.specs.Notes.{AreNotes}
 use Rattle.fo_super.specs.Passives.{others_from, without, ArePartners, IsFirst, IsFrontOf, IsRisingFrom}
 use Rattle.fo_super.specs.Runs.{origin_of, search_after, search_of, started, turned, IsFit, IsGrown, IsRunOf, IsState}
 use Rattle.fo_super.specs.Sifting.{alone}
 use Rattle.fo_super.specs.Turns.{Origin, Search, given, numbers_from, start, IsByNumber, IsGiven, IsTurn, Works}
 use Rattle.fo_super.proofs.Choosing.{active-partners, all-numbers, numbers-below, rising-numbers, turned-named, turned-rising}
 use Rattle.fo_super.proofs.Fronts.{front-cut}
+use Rattle.fo_super.proofs.Noted.{notes-cut}
 use Rattle.fo_super.proofs.Works.{works-few, works-fit}
 
 -- the clause that is given
@@ -42,8 +45,9 @@ turn-made old new g count more partners ns chosen grown e f works h k = record {
 }
 
 -- keeps the state valid
-pub state-turned : (old new : FoState) → IsState old → new.problem ≡ old.problem → IsTurn old.problem (search_of old) (search_of new) → IsState new
-state-turned old new h e t = record {
+pub state-turned : (old new : FoState) → IsState old → new.problem ≡ old.problem → AreNotes new.notes new.clauses → IsTurn old.problem (search_of old) (search_of new) → IsState new
+state-turned old new h e noted t = record {
+  notes = noted;
   run = subst (λ (p : FoProblem). IsRunOf p (search_of new)) (sym e) (turned h.run t);
   count = works-few old.problem t.worked h.count;
   fit = subst (λ (p : FoProblem). AllByRecursion (IsFit p.syms) new.clauses) (sym e) (works-fit old.problem t.worked h.fit);
@@ -53,33 +57,35 @@ state-turned old new h e t = record {
 }
 
 -- cut back
-abbrev make : FoProblem → List FoClause → List FoOrigin → List ℕ → ℕ → FoState
-make p cs os ns t = record { problem = p; clauses = cs; origins = os; passive = ns; turns = t }
+abbrev make : FoProblem → List FoClause → List FoOrigin → FoNotes → List ℕ → ℕ → FoState
+make p cs os xs ns t = record { problem = p; clauses = cs; origins = os; notes = xs; passive = ns; turns = t }
 
-pub cut-back : (old new : FoState) (m n : ℕ) (cs : List FoClause) (os : List FoOrigin) → IsGrown old new → m ≡ length old.clauses → n ≡ length old.origins → cs ≡ take m new.clauses → os ≡ take n new.origins →
-    make new.problem cs os new.passive new.turns ≡ old
-cut-back old new m n cs os h e f a b =
-    ap (λ (x : FoProblem). make x cs os new.passive new.turns) h.problem
-    ∙ ap (λ (x : List FoClause). make old.problem x os new.passive new.turns) (a ∙ front-cut old.clauses new.clauses m h.clauses e)
-    ∙ ap (λ (x : List FoOrigin). make old.problem old.clauses x new.passive new.turns) (b ∙ front-cut old.origins new.origins n h.origins f)
-    ∙ ap (λ (x : List ℕ). make old.problem old.clauses old.origins x new.turns) h.passive
-    ∙ ap (make old.problem old.clauses old.origins old.passive) h.turns
+pub cut-back : (old new : FoState) (m n : ℕ) (cs : List FoClause) (os : List FoOrigin) (xs : FoNotes) → IsState old → IsGrown old new → m ≡ length old.clauses → n ≡ length old.origins → cs ≡ take m new.clauses → os ≡ take n new.origins →
+    xs.masks ≡ take m new.notes.masks → xs.weights ≡ take m new.notes.weights → make new.problem cs os xs new.passive new.turns ≡ old
+cut-back old new m n cs os xs state h e f a b c d =
+    ap (λ (x : FoProblem). make x cs os xs new.passive new.turns) h.problem
+    ∙ ap (λ (x : List FoClause). make old.problem x os xs new.passive new.turns) (a ∙ front-cut old.clauses new.clauses m h.clauses e)
+    ∙ ap (λ (x : List FoOrigin). make old.problem old.clauses x xs new.passive new.turns) (b ∙ front-cut old.origins new.origins n h.origins f)
+    ∙ ap (λ (x : FoNotes). make old.problem old.clauses old.origins x new.passive new.turns) (notes-cut xs old.notes new.notes old.clauses m state.notes h.notes e c d)
+    ∙ ap (λ (x : List ℕ). make old.problem old.clauses old.origins old.notes x new.turns) h.passive
+    ∙ ap (make old.problem old.clauses old.origins old.notes old.passive) h.turns
 
 -- the start
-fit-all : (sorts : ℕ) (syms : List FoSym) (cs : List FoClause) → AllByRecursion (IsClause sorts syms) cs → AllByRecursion (IsFit syms) cs
+pub fit-all : (sorts : ℕ) (syms : List FoSym) (cs : List FoClause) → AllByRecursion (IsClause sorts syms) cs → AllByRecursion (IsFit syms) cs
 fit-all sorts syms [] h = tt
 fit-all sorts syms (c ∷ cs) h = (record { few = h.0.lits_count; sorted = h.0.lits }, fit-all sorts syms cs h.1)
 
 abbrev place : List Origin → List ℕ → FoProblem → Search
 place os ns p = record { clauses = p.clauses; origins = os; passive = ns; turns = 0 }
 
-pub search-started : (p : FoProblem) (cs : List FoClause) (os : List FoOrigin) (ns : List ℕ) → cs ≡ p.clauses → map origin_of os ≡ map (λ c. given) p.clauses → ns ≡ numbers_from 0 (length p.clauses) → search_of (make p cs os ns 0) ≡ start p
-search-started p cs os ns d e f =
-    ap (λ (x : List FoClause). search_of (make p x os ns 0)) d ∙ ap (λ (x : List Origin). place x ns p) e ∙ ap (λ (x : List ℕ). place (map (λ c. given) p.clauses) x p) (f ∙ all-numbers 0 p.clauses)
+pub search-started : (p : FoProblem) (cs : List FoClause) (os : List FoOrigin) (xs : FoNotes) (ns : List ℕ) → cs ≡ p.clauses → map origin_of os ≡ map (λ c. given) p.clauses → ns ≡ numbers_from 0 (length p.clauses) → search_of (make p cs os xs ns 0) ≡ start p
+search-started p cs os xs ns d e f =
+    ap (λ (x : List FoClause). search_of (make p x os xs ns 0)) d ∙ ap (λ (x : List Origin). place x ns p) e ∙ ap (λ (x : List ℕ). place (map (λ c. given) p.clauses) x p) (f ∙ all-numbers 0 p.clauses)
 
-pub state-started : (p : FoProblem) (cs : List FoClause) (os : List FoOrigin) (ns : List ℕ) → IsProblem p → cs ≡ p.clauses → map origin_of os ≡ map (λ c. given) p.clauses → ns ≡ numbers_from 0 (length p.clauses) → IsState (make p cs os ns 0)
-state-started p cs os ns h d e f = record {
-  run = subst (IsRunOf p) (sym (search-started p cs os ns d e f)) started;
+pub state-started : (p : FoProblem) (cs : List FoClause) (os : List FoOrigin) (xs : FoNotes) (ns : List ℕ) → IsProblem p → AreNotes xs cs → cs ≡ p.clauses → map origin_of os ≡ map (λ c. given) p.clauses → ns ≡ numbers_from 0 (length p.clauses) → IsState (make p cs os xs ns 0)
+state-started p cs os xs ns h noted d e f = record {
+  notes = noted;
+  run = subst (IsRunOf p) (sym (search-started p cs os xs ns d e f)) started;
   count = subst (λ (x : List FoClause). length x ≤ most_number) (sym d) h.clauses_count;
   fit = subst (AllByRecursion (IsFit p.syms)) (sym d) (fit-all p.sorts p.syms p.clauses h.clauses);
   rising = subst (IsRisingFrom 0) (sym f) (rising-numbers 0 (length p.clauses));

@@ -94,12 +94,15 @@ kept-room : (syms : List FoSym) (clauses : List FoClause) (limit : ℕ) (i c : F
 kept-room syms clauses limit i c h = elim (cases_lt (length clauses) 100000) [ inl l ↦ l | inr l ↦ absurd ((kept-admitted syms clauses limit i c h).has_room (inr (let k : 100000 ≤ length clauses = omega arith in k))) ]
 
 module _ (p : FoProblem) where
+  pub kept-fit : (cs : List FoClause) (m : Member) (vars : List ℕ) (terms : Terms) (i c : FoClause) → IsDue p.sorts p.syms cs m vars terms i c → OutcomeOf p.syms cs p.weight i c outcome.Kept → AllByRecursion (IsFit p.syms) cs → AllByRecursion (IsFit p.syms) (cs ++ c ∷ [])
+  kept-fit cs m vars terms i c due out h =
+      all-both (IsFit p.syms) cs (c ∷ []) h (record { few = kept-few p.syms cs p.weight i c out; sorted = due-sorted p.sorts p.syms cs m vars terms i c (names-sorted p.syms cs m h) due }, tt)
+
   pub works-fit : {ms : List Member} {cs ds : List FoClause} {os qs : List Origin} → Works p ms cs os ds qs → AllByRecursion (IsFit p.syms) cs → AllByRecursion (IsFit p.syms) ds
   works-fit done h = h
   works-fit (passed f w) h = works-fit w h
   works-fit (refused vars terms i c o due out n w) h = works-fit w h
-  works-fit {ms} {cs} (kept {m} vars terms i c due out w) h =
-      works-fit w (all-both (IsFit p.syms) cs (c ∷ []) h (record { few = kept-few p.syms cs p.weight i c out; sorted = due-sorted p.sorts p.syms cs m vars terms i c (names-sorted p.syms cs m h) due }, tt))
+  works-fit {ms} {cs} (kept {m} vars terms i c due out w) h = works-fit w (kept-fit cs m vars terms i c due out h)
 
   pub works-few : {ms : List Member} {cs ds : List FoClause} {os qs : List Origin} → Works p ms cs os ds qs → length cs ≤ most_number → length ds ≤ most_number
   works-few done h = h

@@ -15,3 +15,6 @@ pub mod Sifting
 pub mod Walks
 pub mod Working
 pub mod Replaying
+pub mod Unique
+pub mod Marks
+pub mod Notes

@@ -12,6 +12,7 @@ use Rattle.fo_super.specs.declared.state.FoOrigin.TheVariants as variant
 use Rattle.fo_super.specs.declared.state.FoState.{FoState}
 use Rattle.fo_super.specs.Turns.{Origin, given, concluded, Search, start, IsTurn}
 use Rattle.fo_super.specs.Viewing.{member_of}
+use Rattle.fo_super.specs.Notes.{AreMoreNotes, AreNotes}
 use Rattle.fo_super.specs.Passives.{IsFrontOf, IsRisingFrom}
 
 abbrev pub origin_of : FoOrigin → Origin
@@ -31,13 +32,14 @@ pub record IsFit (syms : List FoSym) (c : FoClause) : Type 0 where
   pub few : length c.lits ≤ most_number
   pub sorted : AllByRecursion (IsLiteral c.vars syms) c.lits
 
--- a state to which turns lead; its passive numbers rise and name kept clauses
+-- a state to which turns lead; its passive numbers rise and name kept clauses, and its notes are on these
 pub record IsState (s : FoState) : Type 0 where
   pub run : IsRunOf s.problem (search_of s)
   pub count : length s.clauses ≤ most_number
   pub fit : AllByRecursion (IsFit s.problem.syms) s.clauses
   pub rising : IsRisingFrom 0 s.passive
   pub named : AllByRecursion (λ n. n < length s.clauses) s.passive
+  pub notes : AreNotes s.notes s.clauses
 
 -- a state with more clauses and origins, and else the same
 pub record IsGrown (old new : FoState) : Type 0 where
@@ -46,6 +48,7 @@ pub record IsGrown (old new : FoState) : Type 0 where
   pub turns : new.turns ≡ old.turns
   pub clauses : IsFrontOf old.clauses new.clauses
   pub origins : IsFrontOf old.origins new.origins
+  pub notes : AreMoreNotes old.notes new.notes
 
 -- the search of a state after a turn, with these passive clauses
 abbrev pub search_after : FoState → List ℕ → Search

@@ -1,11 +1,15 @@
 //! The outcome of a clause.
 
-ghost use Rattle.std.specs.Prelude.{◌≡◌, ◌<◌, ◌≤◌, ◌⊎◌, length, IfOk, MatchOption};
+ghost use Rattle.std.specs.Prelude.{◌≡◌, ◌<◌, ◌≤◌, ◌⊎◌, length, map, IfOk, MatchOption};
 ghost use Rattle.std.specs.Bool.{Decides};
 ghost use Rattle.fo_super.specs.Subsumption.{Subsumes};
+ghost use Rattle.fo_super.specs.Marks.{mask as mask_of};
+ghost use Rattle.fo_super.specs.Notes.{clause_mask, AreNotes};
 ghost use Rattle.fo_super.specs.Outcomes.{HoldsOfNone, IsHeavy, IsIdentical, IsLeast, LacksRoom, OutcomeOf};
 
 use crate::identity::is_identical;
+use crate::marking::mask;
+use crate::notes::FoNotes;
 use crate::outcomes::FoOutcome;
 use crate::subsuming::subsumes;
 use crate::tautologies::is_tautology;
@@ -40,17 +44,51 @@ fn is_heavy(clause: &FoClause, limit: u32, instance: &FoClause) -> bool
     is_heavier(clause.lits.as_slice(), limit)
 }
 
+/// Whether a kept clause is the same. It is not where the masks differ.
+fn is_copy(kept: &FoClause, kept_mask: u64, clause: &FoClause, mask: u64) -> bool
+    requires kept { kept_mask ≡ mask_of kept.now.lits }
+    requires mask { mask ≡ mask_of clause.now.lits }
+    ensures { Decides result (IsIdentical kept.now clause.now) }
+{
+    if kept_mask != mask {
+        return false;
+    }
+    is_identical(kept, clause)
+}
+
 /// The least number of a kept clause that is the same.
-fn copied(kept: &[FoClause], clause: &FoClause) -> Option<u32>
+fn copied(kept: &[FoClause], masks: &[u64], clause: &FoClause, mask: u64) -> Option<u32>
     requires few { length kept.now < 100000 }
+    requires masks { masks.now ≡ map clause_mask kept.now }
+    requires mask { mask ≡ mask_of clause.now.lits }
     ensures { MatchOption result (HoldsOfNone (λ k. IsIdentical k clause.now) kept.now) (IsLeast (λ k. IsIdentical k clause.now) kept.now) }
 {
     for number in 0..kept.len() {
-        if is_identical(&kept[number], clause) {
+        if is_copy(&kept[number], masks[number], clause, mask) {
             return Some(number as u32);
         }
     }
     None
+}
+
+/// Whether a kept clause subsumes the clause. It does not where that lacks one of its marks.
+fn is_subsuming(
+    alloc: Global,
+    syms: &[FoSym],
+    kept: &FoClause,
+    kept_mask: u64,
+    clause: &FoClause,
+    mask: u64,
+) -> Result<bool, AllocError>
+    requires kept { kept_mask ≡ mask_of kept.now.lits }
+    requires mask { mask ≡ mask_of clause.now.lits }
+    ensures { IfOk result (λ b. Decides b (Subsumes syms.now kept.now clause.now)) }
+{
+    if kept_mask & mask != kept_mask {
+        return Ok(false);
+    }
+    let found = subsumes(alloc, syms, kept, clause)?;
+    Ok(found)
 }
 
 /// The least number of a kept clause that subsumes the clause.
@@ -58,13 +96,17 @@ fn subsuming(
     alloc: Global,
     syms: &[FoSym],
     kept: &[FoClause],
+    masks: &[u64],
     clause: &FoClause,
+    mask: u64,
 ) -> Result<Option<u32>, AllocError>
     requires few { length kept.now < 100000 }
+    requires masks { masks.now ≡ map clause_mask kept.now }
+    requires mask { mask ≡ mask_of clause.now.lits }
     ensures { IfOk result (λ o. MatchOption o (HoldsOfNone (λ k. Subsumes syms.now k clause.now) kept.now) (IsLeast (λ k. Subsumes syms.now k clause.now) kept.now)) }
 {
     for number in 0..kept.len() {
-        let found = subsumes(alloc, syms, &kept[number], clause)?;
+        let found = is_subsuming(alloc, syms, &kept[number], masks[number], clause, mask)?;
         if found {
             return Ok(Some(number as u32));
         }
@@ -72,8 +114,8 @@ fn subsuming(
     Ok(None)
 }
 
-/// The first of these that holds of a clause that was found, where `kept` are the kept clauses and
-/// `instance` is the instance of which it is a part:
+/// The first of these that holds of a clause that was found, where `kept` are the kept clauses, `notes`
+/// the notes on them, and `instance` is the instance of which it is a part:
 ///
 /// - [`FoOutcome::Tautology`]: a literal is `s = s`; or two are `s = t` and `s != t`, as they are or
 ///   turned; or two are `A = T` and `A = F`, where T and F are the symbols 0 and 1.
@@ -91,10 +133,12 @@ pub fn outcome(
     alloc: Global,
     syms: &[FoSym],
     kept: &[FoClause],
+    notes: &FoNotes,
     clause: &FoClause,
     weight: u32,
     instance: &FoClause,
 ) -> Result<FoOutcome, AllocError>
+    requires { AreNotes notes.now kept.now }
     ensures { IfOk result (OutcomeOf syms.now kept.now weight instance.now clause.now) }
 {
     if is_tautology(clause.lits.as_slice()) {
@@ -106,9 +150,11 @@ pub fn outcome(
     if is_heavy(clause, weight, instance) {
         return Ok(FoOutcome::Heavy);
     }
-    match copied(kept, clause) {
+    let masks = notes.masks.as_slice();
+    let mask = mask(alloc, clause.lits.as_slice())?;
+    match copied(kept, masks, clause, mask) {
         Some(number) => Ok(FoOutcome::Copy(number)),
-        None => match subsuming(alloc, syms, kept, clause)? {
+        None => match subsuming(alloc, syms, kept, masks, clause, mask)? {
             Some(number) => Ok(FoOutcome::Subsumed(number)),
             None => Ok(FoOutcome::Kept),
         },

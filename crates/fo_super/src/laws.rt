@@ -1,6 +1,7 @@
 //! The laws, each a clause of a function that does nothing.
 
 ghost use Rattle.fo_super.specs.Replaying.{MembersAreUnique, MembersReplay, MembersSort};
+ghost use Rattle.fo_super.specs.Unique.{TurnsAreUnique};
 ghost use Rattle.fo_super.specs.Laws.{ConclusionsReplay, InstancesReplay, NumbersByOccurrence, OutcomesAreUnique, RenumberedUnifiersAreGeneral, ResolutionsAreUnique};
 
 /// A clause has one outcome.
@@ -31,4 +32,9 @@ pub fn member_laws()
     ensures unique { MembersAreUnique }
     ensures replay { MembersReplay }
     ensures sorted { MembersSort }
+{}
+
+/// A turn has one result: from a search to which turns on a problem lead, it leads to one search.
+pub fn turn_laws()
+    ensures { TurnsAreUnique }
 {}

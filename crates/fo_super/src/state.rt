@@ -7,6 +7,7 @@ ghost use Rattle.fo_super.specs.Runs.{origin_of, search_of, IsState};
 ghost use Rattle.fo_super.specs.Turns.{start as start_of, given as the_text, numbers_from};
 
 use crate::member::FoMember;
+use crate::notes::FoNotes;
 use fo_terms::term::FoTerm;
 use fo_text::problem::{FoClause, FoLit, FoProblem};
 use sqlite_items::Items;
@@ -26,13 +27,14 @@ pub enum FoOrigin {
     },
 }
 
-/// The state of the machine on a problem: the kept clauses with their origins, the numbers of those
-/// that are passive, which rise, and how many turns were taken.
+/// The state of the machine on a problem: the kept clauses with their origins and notes on them, the
+/// numbers of those that are passive, which rise, and how many turns were taken.
 #[derive(Drop)]
 pub struct FoState {
     pub problem: FoProblem,
     pub clauses: Items<FoClause>,
     pub origins: Items<FoOrigin>,
+    pub notes: FoNotes,
     pub passive: Items<u32>,
     pub turns: u32,
 }
@@ -131,12 +133,14 @@ impl FoState {
     {
         let clauses = clause_copies(alloc, problem.clauses.as_slice())?;
         let origins = text_origins(alloc, problem.clauses.as_slice())?;
+        let notes = FoNotes::of(alloc, clauses.as_slice())?;
         let mut passive = Items::new(alloc);
         push_numbers(0, clauses.len() as u32, &mut passive)?;
         Ok(FoState {
             problem,
             clauses,
             origins,
+            notes,
             passive,
             turns: 0,
         })

@@ -2,6 +2,7 @@
 
 use crate::deciding::outcome;
 use crate::literals::is_greater;
+use crate::notes::FoNotes;
 use crate::outcomes::FoOutcome;
 use fo_terms::term::{FoNode, FoTerm};
 use fo_text::problem::{FoClause, FoLit, FoSym};
@@ -44,7 +45,8 @@ fn found(alloc: Global, kept: FoClause, clause: &FoClause) -> Result<FoOutcome, 
             args: Items::new(alloc),
         })?;
     }
-    let answer = outcome(alloc, &syms, &clauses, clause, 256, clause)?;
+    let notes = FoNotes::of(alloc, &clauses)?;
+    let answer = outcome(alloc, &syms, &clauses, &notes, clause, 256, clause)?;
     Ok(answer)
 }
 

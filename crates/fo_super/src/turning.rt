@@ -1,17 +1,19 @@
 //! One turn of the machine.
 
-ghost use Rattle.std.specs.Prelude.{◌≡◌, ◌+◌, ◌<◌, ◌≤◌, ◌^◌, ◌-◌, ◌++◌, ◌∷◌, [], ℕ, suc, List, IfOk, IfErr, MatchOption, OnOk, OnErr, length, slice_get, Some, sum_by, false};
+ghost use Rattle.std.specs.Prelude.{◌≡◌, ◌+◌, ◌<◌, ◌≤◌, ◌^◌, ◌-◌, ◌++◌, ◌∷◌, [], ℕ, suc, List, IfOk, IfErr, MatchOption, OnOk, OnErr, length, slice_get, Some, false};
 ghost use Rattle.std.specs.List.{AllByRecursion};
 ghost use Rattle.fo_text.specs.declared.problem.FoClause.{FoClause};
 ghost use Rattle.fo_text.specs.Words.{most_number};
-ghost use Rattle.fo_replay.specs.Replays.{clause_weight, literal_weight as weight_of_literal};
+ghost use Rattle.fo_replay.specs.Replays.{clause_weight};
+ghost use Rattle.fo_super.specs.Notes.{AreNotes};
 ghost use Rattle.fo_super.specs.Passives.{others_from, without as without_number, IsFirst, IsRisingFrom};
 ghost use Rattle.fo_super.specs.Runs.{search_after, search_of, IsGrown, IsState};
 ghost use Rattle.fo_super.specs.Turns.{IsGiven, IsTurn};
 
 use crate::state::{FoState, push_numbers, shorten};
+use crate::weights::weight;
 use crate::working::work_turn;
-use fo_text::problem::{FoClause, FoLit};
+use fo_text::problem::FoClause;
 use sqlite_items::Items;
 use std::alloc::{AllocError, Global};
 
@@ -23,26 +25,6 @@ const OLDEST_EVERY: u32 = 5;
 struct Weighed {
     place: usize,
     weight: u128,
-}
-
-/// The weight of a literal.
-fn literal_weight(literal: &FoLit) -> u128
-    ensures weight { result ≡ weight_of_literal literal.now }
-    ensures small { result < 2 ^ 66 }
-{
-    literal.left.nodes().len() as u128 + literal.right.nodes().len() as u128
-}
-
-/// The weight of a clause.
-fn weight(clause: &FoClause) -> u128
-    requires { length clause.now.lits ≤ most_number }
-    ensures { result ≡ clause_weight clause.now }
-{
-    let mut weight = 0;
-    for literal in clause.lits.as_slice() {
-        weight += literal_weight(literal);
-    }
-    weight
 }
 
 /// The lighter one, and the first where both weigh the same.
@@ -169,6 +151,7 @@ fn attempt(alloc: Global, state: &mut FoState, given: u32) -> Result<Items<u32>,
     requires given { (c : FoClause) × IsGiven (search_of state.old) given c }
     ensures grown { IsGrown state.old state.new }
     ensures turn { IfOk result (λ ns. IsTurn state.old.problem (search_of state.old) (search_after state.new ns)) }
+    ensures noted { IfOk result (λ ns. AreNotes state.new.notes state.new.clauses) }
 {
     let count = state.clauses.len() as u32;
     let mut passive = without(alloc, state.passive.as_slice(), given)?;
@@ -180,6 +163,7 @@ fn attempt(alloc: Global, state: &mut FoState, given: u32) -> Result<Items<u32>,
         partners.as_slice(),
         &mut state.clauses,
         &mut state.origins,
+        &mut state.notes,
     )?;
     let kept = state.clauses.len() as u32 - count;
     push_numbers(count, kept, &mut passive)?;
@@ -215,6 +199,7 @@ pub fn fo_turn(alloc: Global, state: &mut FoState) -> Result<(), AllocError>
         Err(error) => {
             shorten(&mut state.clauses, clauses);
             shorten(&mut state.origins, origins);
+            state.notes.cut(clauses);
             Err(error)
         }
     }

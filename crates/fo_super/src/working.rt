@@ -9,6 +9,7 @@ ghost use Rattle.fo_replay.specs.Instances.{as_terms};
 ghost use Rattle.fo_super.specs.declared.outcomes.FoOutcome.TheVariants as variant;
 ghost use Rattle.fo_super.specs.Conclusions.{IsDue};
 ghost use Rattle.fo_super.specs.Members.{meetings};
+ghost use Rattle.fo_super.specs.Notes.{AreMoreNotes, AreNotes};
 ghost use Rattle.fo_super.specs.Passives.{ArePartners, IsFrontOf};
 ghost use Rattle.fo_super.specs.Runs.{origin_of, IsFit};
 ghost use Rattle.fo_super.specs.Sifting.{alone, AreSifted};
@@ -19,6 +20,7 @@ use crate::candidates::{list_alone, list_meeting};
 use crate::deciding::outcome;
 use crate::member::FoMember;
 use crate::members::due;
+use crate::notes::FoNotes;
 use crate::outcomes::FoOutcome;
 use crate::resolving::FoResolved;
 use crate::state::FoOrigin;
@@ -78,13 +80,19 @@ fn keep(
     found: FoResolved,
     clauses: &mut Items<FoClause>,
     origins: &mut Items<FoOrigin>,
+    notes: &mut FoNotes,
 ) -> Result<(), AllocError>
+    requires few { length found.conclusion.lits ≤ most_number }
+    requires noted { AreNotes notes.old clauses.old }
     ensures clauses { OnOk result (clauses.new ≡ clauses.old ++ found.conclusion ∷ []) }
     ensures origins { OnOk result (map origin_of origins.new ≡ map origin_of origins.old ++ concluded (member_of member.now) found.instance.vars (as_terms found.terms) ∷ []) }
+    ensures noted { OnOk result (AreNotes notes.new clauses.new) }
     ensures more_clauses { IsFrontOf clauses.old clauses.new }
     ensures more_origins { IsFrontOf origins.old origins.new }
+    ensures more_notes { AreMoreNotes notes.old notes.new }
 {
     let member = member_copy(alloc, member)?;
+    notes.push(alloc, &found.conclusion)?;
     let FoResolved {
         terms,
         instance,
@@ -122,16 +130,21 @@ fn take_in(
     found: FoResolved,
     clauses: &mut Items<FoClause>,
     origins: &mut Items<FoOrigin>,
+    notes: &mut FoNotes,
 ) -> Result<(), AllocError>
-    requires { IsDue problem.now.sorts problem.now.syms clauses.old (member_of member.now) found.instance.vars (as_terms found.terms) found.instance found.conclusion }
+    requires due { IsDue problem.now.sorts problem.now.syms clauses.old (member_of member.now) found.instance.vars (as_terms found.terms) found.instance found.conclusion }
+    requires noted { AreNotes notes.old clauses.old }
     ensures worked { OnOk result (Works problem.now (member_of member.now ∷ []) clauses.old (map origin_of origins.old) clauses.new (map origin_of origins.new)) }
+    ensures noted { OnOk result (AreNotes notes.new clauses.new) }
     ensures more_clauses { IsFrontOf clauses.old clauses.new }
     ensures more_origins { IsFrontOf origins.old origins.new }
+    ensures more_notes { AreMoreNotes notes.old notes.new }
 {
     let decided = outcome(
         alloc,
         problem.syms.as_slice(),
         clauses.as_slice(),
+        notes,
         &found.conclusion,
         problem.weight,
         &found.instance,
@@ -139,7 +152,7 @@ fn take_in(
     if !is_kept(decided) {
         return Ok(());
     }
-    keep(alloc, member, found, clauses, origins)?;
+    keep(alloc, member, found, clauses, origins, notes)?;
     Ok(())
 }
 
@@ -150,17 +163,21 @@ fn work(
     member: &FoMember,
     clauses: &mut Items<FoClause>,
     origins: &mut Items<FoOrigin>,
+    notes: &mut FoNotes,
 ) -> Result<(), AllocError>
     requires fit { AllByRecursion (IsFit problem.now.syms) clauses.old }
+    requires noted { AreNotes notes.old clauses.old }
     ensures worked { OnOk result (Works problem.now (member_of member.now ∷ []) clauses.old (map origin_of origins.old) clauses.new (map origin_of origins.new)) }
+    ensures noted { OnOk result (AreNotes notes.new clauses.new) }
     ensures more_clauses { IsFrontOf clauses.old clauses.new }
     ensures more_origins { IsFrontOf origins.old origins.new }
+    ensures more_notes { AreMoreNotes notes.old notes.new }
 {
     let syms = problem.syms.as_slice();
     match due(alloc, problem.sorts, syms, clauses.as_slice(), member)? {
         None => Ok(()),
         Some(found) => {
-            take_in(alloc, problem, member, found, clauses, origins)?;
+            take_in(alloc, problem, member, found, clauses, origins, notes)?;
             Ok(())
         }
     }
@@ -173,15 +190,19 @@ fn work_all(
     members: &[FoMember],
     clauses: &mut Items<FoClause>,
     origins: &mut Items<FoOrigin>,
+    notes: &mut FoNotes,
 ) -> Result<(), AllocError>
     requires fit { AllByRecursion (IsFit problem.now.syms) clauses.old }
+    requires noted { AreNotes notes.old clauses.old }
     ensures worked { OnOk result (Works problem.now (map member_of members.now) clauses.old (map origin_of origins.old) clauses.new (map origin_of origins.new)) }
     ensures fit { OnOk result (AllByRecursion (IsFit problem.now.syms) clauses.new) }
+    ensures noted { OnOk result (AreNotes notes.new clauses.new) }
     ensures more_clauses { IsFrontOf clauses.old clauses.new }
     ensures more_origins { IsFrontOf origins.old origins.new }
+    ensures more_notes { AreMoreNotes notes.old notes.new }
 {
     for member in members {
-        work(alloc, problem, member, clauses, origins)?;
+        work(alloc, problem, member, clauses, origins, notes)?;
     }
     Ok(())
 }
@@ -227,16 +248,20 @@ fn work_alone(
     given: u32,
     clauses: &mut Items<FoClause>,
     origins: &mut Items<FoOrigin>,
+    notes: &mut FoNotes,
 ) -> Result<(), AllocError>
     requires given { given < length clauses.old }
     requires fit { AllByRecursion (IsFit problem.now.syms) clauses.old }
+    requires noted { AreNotes notes.old clauses.old }
     ensures worked { OnOk result ((c : FoClause) → slice_get clauses.old given ≡ Some c → Works problem.now (alone given c.lits) clauses.old (map origin_of origins.old) clauses.new (map origin_of origins.new)) }
     ensures fit { OnOk result (AllByRecursion (IsFit problem.now.syms) clauses.new) }
+    ensures noted { OnOk result (AreNotes notes.new clauses.new) }
     ensures more_clauses { IsFrontOf clauses.old clauses.new }
     ensures more_origins { IsFrontOf origins.old origins.new }
+    ensures more_notes { AreMoreNotes notes.old notes.new }
 {
     let members = listed_alone(alloc, given, clauses.as_slice())?;
-    work_all(alloc, problem, members.as_slice(), clauses, origins)?;
+    work_all(alloc, problem, members.as_slice(), clauses, origins, notes)?;
     Ok(())
 }
 
@@ -249,17 +274,21 @@ fn work_meeting(
     number: u32,
     clauses: &mut Items<FoClause>,
     origins: &mut Items<FoOrigin>,
+    notes: &mut FoNotes,
 ) -> Result<(), AllocError>
     requires given { given < length clauses.old }
     requires number { number < length clauses.old }
     requires fit { AllByRecursion (IsFit problem.now.syms) clauses.old }
+    requires noted { AreNotes notes.old clauses.old }
     ensures worked { OnOk result ((c d : FoClause) → slice_get clauses.old given ≡ Some c → slice_get clauses.old number ≡ Some d → Works problem.now (meetings given c.lits (number, d)) clauses.old (map origin_of origins.old) clauses.new (map origin_of origins.new)) }
     ensures fit { OnOk result (AllByRecursion (IsFit problem.now.syms) clauses.new) }
+    ensures noted { OnOk result (AreNotes notes.new clauses.new) }
     ensures more_clauses { IsFrontOf clauses.old clauses.new }
     ensures more_origins { IsFrontOf origins.old origins.new }
+    ensures more_notes { AreMoreNotes notes.old notes.new }
 {
     let members = listed_meeting(alloc, given, number, clauses.as_slice())?;
-    work_all(alloc, problem, members.as_slice(), clauses, origins)?;
+    work_all(alloc, problem, members.as_slice(), clauses, origins, notes)?;
     Ok(())
 }
 
@@ -271,17 +300,21 @@ fn work_meetings(
     partners: &[u32],
     clauses: &mut Items<FoClause>,
     origins: &mut Items<FoOrigin>,
+    notes: &mut FoNotes,
 ) -> Result<(), AllocError>
     requires given { given < length clauses.old }
     requires partners { AllByRecursion (λ n. n < length clauses.old) partners.now }
     requires fit { AllByRecursion (IsFit problem.now.syms) clauses.old }
+    requires noted { AreNotes notes.old clauses.old }
     ensures worked { OnOk result ((c : FoClause) (ps : List (ℕ × FoClause)) → slice_get clauses.old given ≡ Some c → ArePartners clauses.old partners.now ps → Works problem.now (flat_map (meetings given c.lits) ps) clauses.old (map origin_of origins.old) clauses.new (map origin_of origins.new)) }
     ensures fit { OnOk result (AllByRecursion (IsFit problem.now.syms) clauses.new) }
+    ensures noted { OnOk result (AreNotes notes.new clauses.new) }
     ensures more_clauses { IsFrontOf clauses.old clauses.new }
     ensures more_origins { IsFrontOf origins.old origins.new }
+    ensures more_notes { AreMoreNotes notes.old notes.new }
 {
     for number in partners {
-        work_meeting(alloc, problem, given, *number, clauses, origins)?;
+        work_meeting(alloc, problem, given, *number, clauses, origins, notes)?;
     }
     Ok(())
 }
@@ -294,16 +327,20 @@ pub(crate) fn work_turn(
     partners: &[u32],
     clauses: &mut Items<FoClause>,
     origins: &mut Items<FoOrigin>,
+    notes: &mut FoNotes,
 ) -> Result<(), AllocError>
     requires given { given < length clauses.old }
     requires partners { AllByRecursion (λ n. n < length clauses.old) partners.now }
     requires fit { AllByRecursion (IsFit problem.now.syms) clauses.old }
+    requires noted { AreNotes notes.old clauses.old }
     ensures worked { OnOk result ((c : FoClause) (ps : List (ℕ × FoClause)) → slice_get clauses.old given ≡ Some c → ArePartners clauses.old partners.now ps → Works problem.now (alone given c.lits ++ flat_map (meetings given c.lits) ps) clauses.old (map origin_of origins.old) clauses.new (map origin_of origins.new)) }
     ensures fit { OnOk result (AllByRecursion (IsFit problem.now.syms) clauses.new) }
+    ensures noted { OnOk result (AreNotes notes.new clauses.new) }
     ensures more_clauses { IsFrontOf clauses.old clauses.new }
     ensures more_origins { IsFrontOf origins.old origins.new }
+    ensures more_notes { AreMoreNotes notes.old notes.new }
 {
-    work_alone(alloc, problem, given, clauses, origins)?;
-    work_meetings(alloc, problem, given, partners, clauses, origins)?;
+    work_alone(alloc, problem, given, clauses, origins, notes)?;
+    work_meetings(alloc, problem, given, partners, clauses, origins, notes)?;
     Ok(())
 }

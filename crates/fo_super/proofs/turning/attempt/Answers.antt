@@ -39,8 +39,8 @@ push_numbers-requires c =
 
 pub returns-clause-turn : goal.returns-clause-turn
 returns-clause-turn c =
-    turn-made c.args.state.now (record { problem = c.args.state.now.problem; clauses = c.work_turn.new.clauses; origins = c.work_turn.new.origins; passive = c.args.state.now.passive; turns = c.args.state.now.turns }) c.args.given c.len-count.result (c.len.result - c.len-count.result) c.as_slice-3.result.now c.push_numbers.new.numbers c.requires.given
-    (record { problem = refl; passive = refl; turns = refl; clauses = c.in_ok-work_turn.ensures.more_clauses; origins = c.in_ok-work_turn.ensures.more_origins }) c.len-count.ensures
+    turn-made c.args.state.now (record { problem = c.args.state.now.problem; clauses = c.work_turn.new.clauses; origins = c.work_turn.new.origins; notes = c.work_turn.new.notes; passive = c.args.state.now.passive; turns = c.args.state.now.turns }) c.args.given c.len-count.result (c.len.result - c.len-count.result) c.as_slice-3.result.now c.push_numbers.new.numbers c.requires.given
+    (record { problem = refl; passive = refl; turns = refl; clauses = c.in_ok-work_turn.ensures.more_clauses; origins = c.in_ok-work_turn.ensures.more_origins; notes = c.in_ok-work_turn.ensures.more_notes }) c.len-count.ensures
     (c.as_slice-3.ensures ∙ c.in_ok-partners.ensures ∙ ap (others_from 0 c.len-count.result) (c.as_slice-2.ensures ∙ c.in_ok-passive.ensures ∙ ap (without c.args.given) c.as_slice.ensures)) c.in_ok-work_turn.ensures.worked
     (c.in_ok-push_numbers.ensures ∙ ap (λ (x : List ℕ). x ++ numbers_from c.len-count.result (c.len.result - c.len-count.result)) (c.in_ok-passive.ensures ∙ ap (without c.args.given) c.as_slice.ensures))
     (let l : length c.args.state.now.clauses ≤ length c.work_turn.new.clauses = front-long c.args.state.now.clauses c.work_turn.new.clauses c.in_ok-work_turn.ensures.more_clauses in

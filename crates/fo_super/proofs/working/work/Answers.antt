@@ -9,5 +9,5 @@ due-requires c = rw (c.as_slice-syms.ensures, c.as_slice.ensures) (names-sorted 
 pub returns-in-None-clause-worked : goal.returns-in-None-clause-worked
 returns-in-None-clause-worked c = passed (rw (c.as_slice-syms.ensures, c.as_slice.ensures, c.in-None.is) at c.in_ok-due.ensures) done
 
-pub take_in-requires : goal.take_in-requires
-take_in-requires c = rw (c.as_slice-syms.ensures, c.as_slice.ensures, c.in-Some.is) at c.in_ok-due.ensures
+pub take_in-requires-clause-due : goal.take_in-requires-clause-due
+take_in-requires-clause-due c = rw (c.as_slice-syms.ensures, c.as_slice.ensures, c.in-Some.is) at c.in_ok-due.ensures

@@ -1,4 +1,5 @@
 use Rattle.fo_super.proofs.Fronts.{front-get, front-long, front-trans, front-within}
+use Rattle.fo_super.proofs.Noted.{more-trans}
 use Rattle.fo_super.proofs.Works.{all-longer, partners-grown, works-append}
 use Rattle.fo_super.proofs.working.work_turn.Goals as goal
 
@@ -24,3 +25,9 @@ returns-in_err-work_meetings-clause-more_clauses c = front-trans c.args.clauses.
 
 pub returns-in_err-work_meetings-clause-more_origins : goal.returns-in_err-work_meetings-clause-more_origins
 returns-in_err-work_meetings-clause-more_origins c = front-trans c.args.origins.now c.work_alone.new.origins c.work_meetings.new.origins c.work_alone.ensures.more_origins c.work_meetings.ensures.more_origins
+
+pub returns-clause-more_notes : goal.returns-clause-more_notes
+returns-clause-more_notes c = more-trans c.args.notes.now c.work_alone.new.notes c.work_meetings.new.notes c.work_alone.ensures.more_notes c.work_meetings.ensures.more_notes
+
+pub returns-in_err-work_meetings-clause-more_notes : goal.returns-in_err-work_meetings-clause-more_notes
+returns-in_err-work_meetings-clause-more_notes c = more-trans c.args.notes.now c.work_alone.new.notes c.work_meetings.new.notes c.work_alone.ensures.more_notes c.work_meetings.ensures.more_notes
