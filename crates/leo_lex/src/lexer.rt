@@ -3,6 +3,7 @@
 ghost use Rattle.std.specs.Prelude.{◌≡◌, ◌≤◌, ◌*◌, ◌^◌, length, List, ℕ, IfOk, IfErr};
 ghost use Rattle.leo_lex.specs.declared.token.Token.{Token};
 ghost use Rattle.leo_lex.specs.Spaced.{Word, AreWords, spaced, spaced_tokens};
+ghost use Rattle.leo_lex.specs.Spells.{HasTokens, Spells};
 ghost use Rattle.leo_lex.specs.Cut.{AreTokens, IsRefusal, StopsAt};
 
 use crate::forms::token_at;
@@ -59,4 +60,10 @@ pub fn tokens_are_unique()
 /// A law that writers rest on: words with a space behind each are the tokens of the text that they make.
 pub fn spaced_words_are_tokens()
     ensures { (words : List Word) → AreWords words → AreTokens (spaced words) (spaced_tokens 0 words) }
+{}
+
+/// A law that writers rest on: bytes that are given as words, each ended by what stands behind it, have tokens with these
+/// words.
+pub fn spelled_words_are_tokens()
+    ensures { (bytes : List ℕ) (words : List (List ℕ)) → Spells bytes words → HasTokens bytes words }
 {}

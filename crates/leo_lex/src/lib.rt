@@ -7,7 +7,7 @@ mod lexer;
 mod mark;
 mod token;
 
-pub use lexer::{spaced_words_are_tokens, tokens, tokens_are_unique};
+pub use lexer::{spaced_words_are_tokens, spelled_words_are_tokens, tokens, tokens_are_unique};
 pub use mark::{MARKS, Mark};
 pub use token::{Kind, LexRefusal, Token};
 
