@@ -1,5 +1,5 @@
 -- A literal between others, and new literals in its place.
-use Rattle.std.proofs.Common.{ℕ, zero, suc, ◌≡◌, ◌∙◌, ◌+◌, ◌<◌, List, [], ◌∷◌, ◌++◌, length, map, take, drop, slice_get, Some, refl, sym, ap, append_assoc, append-nil, arith}
+use Rattle.std.proofs.Common.{ℕ, zero, suc, ◌≡◌, ◌∙◌, ◌+◌, ◌<◌, List, [], ◌∷◌, ◌++◌, length, map, slice_get, Some, refl, sym, ap, append_assoc, arith}
 use Rattle.std.proofs.lemmas.List.{length-append, map-append}
 use Rattle.leo_clause.specs.Trees.{Literal}
 use Rattle.leo_kernel.specs.Conclusions.{with_literals}

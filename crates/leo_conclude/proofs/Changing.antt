@@ -1,5 +1,5 @@
 -- Clauses of which a part is replaced.
-use Rattle.std.proofs.Common.{ℕ, ◌≡◌, ◌∙◌, ◌+◌, ◌<◌, ◌≤◌, List, [], ◌∷◌, ◌++◌, length, map, take, drop, Some, slice_get, refl, sym, ap, subst, append-nil, arith}
+use Rattle.std.proofs.Common.{ℕ, ◌≡◌, ◌∙◌, ◌+◌, ◌≤◌, List, [], ◌∷◌, ◌++◌, length, map, take, drop, refl, sym, ap, subst, append-nil, arith}
 use Rattle.std.proofs.lemmas.List.{length-append}
 use Rattle.leo_terms.specs.Contents.{Contents, IsBank}
 use Rattle.leo_terms.proofs.CallerLemmas.{extends-itself}
@@ -8,14 +8,14 @@ use Rattle.leo_clause.specs.declared.clause.Lit.{Lit}
 use Rattle.leo_clause.specs.declared.record.Rule.TheVariants as record_of
 use Rattle.leo_clause.specs.Trees.{Literal, ClauseTree, clause_at, literal_at}
 use Rattle.leo_clause.specs.Typed.{AreLiteralsOf, AreTyped, IsTyped, IsTypedIn}
-use Rattle.leo_kernel.specs.Conclusions.{Decomposes, NeverHolds, with_new, with_literals}
+use Rattle.leo_kernel.specs.Conclusions.{Decomposes, NeverHolds, with_new}
 use Rattle.leo_kernel.specs.Conditions.{HaveOneHeadType}
 use Rattle.leo_kernel.specs.Steps.{drop_literal, decompose}
 use Rattle.leo_clausify.proofs.Branching.{placed-of, placed-reads}
 use Rattle.leo_clausify.proofs.Following.{omitted-follows}
 use Rattle.leo_clausify.proofs.Placing.{no-fresh, typed-placed}
 use Rattle.leo_conclude.specs.declared.derived.Derived.{Derived}
-use Rattle.leo_conclude.specs.Deriving.{IsDerived, IsChanged}
+use Rattle.leo_conclude.specs.Deriving.{IsChanged}
 use Rattle.leo_conclude.proofs.Between.{between-get, between-with}
 use Rattle.leo_conclude.proofs.Steps.{derived-step, decomposed-follows}
 
@@ -52,7 +52,7 @@ module _ (c : Contents) (b : IsBank c) (d r : Derived) (k : Clause) (at : ℕ) (
         literals = literals-now front back l is count ∙ rw none refl;
         longer = longer-more d.records r.records _ records;
         derived = λ start h. derived-step c start d r k (record_of.Drop (length d.records) at) (λ p. drop_literal p at) h clause records t tt refl
-            (rw (reads, none) (omitted-follows [] (clause_at c d.clause) at l get typed.typed never));
+            (rw (reads, none) (omitted-follows [] (clause_at c d.clause) at l get typed.typed never).accepted);
       }
 
   -- an inequation becomes its parts

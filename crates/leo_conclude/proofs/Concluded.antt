@@ -1,5 +1,5 @@
 -- Conclusions, and lists of them.
-use Rattle.std.proofs.Common.{ℕ, zero, suc, nat_eq, ◌≡◌, ◌∙◌, ◌+◌, ◌<◌, ◌≤◌, Bool, true, false, List, [], ◌∷◌, ◌++◌, length, map, take, slice_get, slice_index_or, Some, refl, sym, ap, subst, append-nil, arith}
+use Rattle.std.proofs.Common.{ℕ, zero, suc, nat_eq, ◌≡◌, ◌∙◌, ◌+◌, ◌<◌, Bool, true, false, List, [], ◌∷◌, ◌++◌, length, map, take, slice_get, slice_index_or, Some, refl, sym, ap, subst, append-nil, arith}
 use Rattle.std.proofs.lemmas.List.{map-append, take_more}
 use Rattle.std.specs.Bool.{◌==◌, if◌then◌else◌}
 use Rattle.std.proofs.lemmas.Bool.Decides.{nat_tests}
@@ -16,7 +16,7 @@ use Rattle.leo_clause.specs.Renaming.{substituted_literal}
 use Rattle.leo_clause.specs.Trees.{Literal, ClauseTree, clause_at, literal_at}
 use Rattle.leo_clause.specs.Typed.{IsTyped, IsTypedIn}
 use Rattle.leo_kernel.specs.Acceptance.{AreAcceptedAfter}
-use Rattle.leo_kernel.specs.Steps.{StepRule, Line, line_at}
+use Rattle.leo_kernel.specs.Steps.{line_at}
 use Rattle.leo_kernel.proofs.Growing.{clause-grow, clause-kept}
 use Rattle.leo_kernel.proofs.LinesGrowing.{lines-grow, lines-kept}
 use Rattle.leo_clausify.specs.Leaves.{last_clause}

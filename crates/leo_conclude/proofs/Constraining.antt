@@ -1,5 +1,5 @@
 -- Constraints of a clause, one after the other.
-use Rattle.std.proofs.Common.{ℕ, zero, suc, nat_eq, ◌≡◌, ◌∙◌, ◌+◌, ◌-◌, ◌<◌, ◌≤◌, Bool, true, false, List, [], ◌∷◌, ◌++◌, length, map, take, drop, slice_get, slice_index_or, Option, Some, None, refl, sym, ap, subst, append-nil, append_assoc, arith}
+use Rattle.std.proofs.Common.{ℕ, zero, suc, nat_eq, ◌≡◌, ◌∙◌, ◌+◌, ◌-◌, ◌<◌, ◌≤◌, Bool, true, false, List, [], ◌∷◌, ◌++◌, length, map, take, drop, slice_get, slice_index_or, Some, refl, sym, ap, subst, append-nil, append_assoc, arith}
 use Rattle.std.proofs.lemmas.List.{map-append, take_more}
 use Rattle.std.specs.Bool.{if◌then◌else◌}
 use Rattle.std.specs.List.{list_any, flat_map}
@@ -7,11 +7,10 @@ use Rattle.leo_q0.specs.Terms.{SimpleType}
 use Rattle.leo_terms.specs.Contents.{Contents, tree_at}
 use Rattle.leo_clause.specs.declared.clause.Clause.{Clause}
 use Rattle.leo_clause.specs.declared.clause.Lit.{Lit}
-use Rattle.leo_clause.specs.Trees.{Literal, ClauseTree, clause_at, literal_at}
+use Rattle.leo_clause.specs.Trees.{Literal, clause_at, literal_at}
 use Rattle.leo_clause.specs.Typed.{AreLiteralsOf, AreTyped, IsTypedIn}
 use Rattle.leo_kernel.specs.Shapes.{unequal}
 use Rattle.leo_unify.specs.Given.{AreTypedPairs, IsTypedPair, pair_of}
-use Rattle.leo_unify.specs.Pairs.{Pair}
 use Rattle.leo_conclude.specs.declared.derived.Derived.{Derived}
 use Rattle.leo_conclude.specs.declared.relieving.Relieved.{Relieved}
 use Rattle.leo_conclude.specs.Conclusions.{constraint_pairs, relieved, rest_of, sides_of, unequal_pair}

@@ -1,36 +1,32 @@
 -- The normal form of a clause, and its instance under a solution.
-use Rattle.std.proofs.Common.{ℕ, zero, suc, ◌≡◌, ◌∙◌, ◌+◌, ◌<◌, ◌≤◌, List, [], ◌∷◌, ◌++◌, length, map, take, slice_get, Some, refl, sym, ap, subst, append-nil, arith}
+use Rattle.std.proofs.Common.{ℕ, zero, suc, ◌≡◌, ◌∙◌, ◌+◌, ◌<◌, ◌≤◌, List, [], ◌∷◌, ◌++◌, length, map, take, refl, sym, ap, subst, arith}
 use Rattle.leo_q0.specs.Terms.{SimpleType, arrow}
-use Rattle.leo_terms.specs.Contents.{Contents, IsBank, Extends, AreTerms, tree_at, type_at}
-use Rattle.leo_terms.specs.NormalForm.{normal_form}
+use Rattle.leo_terms.specs.Contents.{Contents, Extends, tree_at, type_at}
 use Rattle.leo_terms.specs.Tree.{Tree, variable, bound, symbol, app, lam, logic, absent, codomain, type_of, substituted}
-use Rattle.leo_terms.specs.Typing.{IsWellTyped}
-use Rattle.leo_terms.proofs.CallerLemmas.{new_bank, old_bank, extends-trans, trees-kept, are_terms-kept}
+use Rattle.leo_terms.proofs.CallerLemmas.{new_bank, extends-trans, trees-kept, are_terms-kept}
 use Rattle.leo_clause.specs.declared.clause.Clause.{Clause}
 use Rattle.leo_clause.specs.declared.clause.Lit.{Lit}
 use Rattle.leo_clause.specs.declared.record.Rule.TheVariants as record_of
 use Rattle.leo_clause.specs.Renaming.{AreGiven, AreRenamed, substituted_literal}
 use Rattle.leo_clause.specs.Trees.{Literal, ClauseTree, clause_at, literal_at}
-use Rattle.leo_clause.specs.Typed.{AreLiteralsOf, AreTypesOf, IsOver, IsTypedLiteral, AreTyped, IsTyped, IsClauseOf, IsTypedIn}
+use Rattle.leo_clause.specs.Typed.{AreLiteralsOf, AreTypesOf, IsOver, AreTyped, IsTyped, IsTypedIn}
 use Rattle.leo_kernel.specs.Conclusions.{AreConverted}
 use Rattle.leo_kernel.specs.Conditions.{AreTermsFor}
 use Rattle.leo_kernel.specs.Steps.{convert, inst}
 use Rattle.leo_kernel.proofs.Growing.{clause-grow, clause-kept, types-grow, types-kept, lits-grow, lits-kept}
 use Rattle.leo_clausify.specs.Literals.{AreLiterals}
-use Rattle.leo_clausify.specs.Moves.{Follows}
 use Rattle.leo_clausify.specs.Splitting.{AreNormal, normal_literal}
 use Rattle.leo_clausify.proofs.Banks.{literals-well}
 use Rattle.leo_clausify.proofs.Following.{AreWell, normals-typed}
 use Rattle.leo_clausify.proofs.Reducts.{normal-twice}
 use Rattle.leo_unify.specs.Contexts.{AreGivenOver, AreTermsIn}
-use Rattle.leo_unify.specs.Search.{Solution}
 use Rattle.leo_unify.specs.Solutions.{IsSigmaOf, sigma_at}
 use Rattle.leo_unify.specs.declared.sigma.Sigma.{Sigma}
 use Rattle.leo_unify.proofs.Over.{given-over, over-lifted_closed, over-substituted}
 use Rattle.leo_conclude.specs.declared.derived.Derived.{Derived}
 use Rattle.leo_conclude.specs.Conclusions.{instance, normal_clause}
 use Rattle.leo_conclude.specs.Deriving.{IsDerived, IsDerivedAs}
-use Rattle.leo_conclude.proofs.Steps.{derived-first, derived-step}
+use Rattle.leo_conclude.proofs.Steps.{IsGiven, derived-first, derived-step}
 
 -- a clause and its normal form
 converted-all : (ls : List Literal) → AreWell ls → AreConverted ls (map normal_literal ls)
@@ -41,17 +37,16 @@ normals-normal : (ls : List Literal) → AreWell ls → AreNormal (map normal_li
 normals-normal [] w = tt
 normals-normal (l ∷ ls) w = (normal-twice l.left w.0, normal-twice l.right w.1, normals-normal ls w.2)
 
-normal-follows : (c : ClauseTree) → IsTyped c → AreWell c.literals → Follows [] c (record { clause = normal_clause c; rule = convert })
-normal-follows c typed w = record {
-  accepted = λ lines p within is h. record {
-    parents = within;
-    literals = tt;
-    place = tt;
-    types = record { clause_typed = normals-typed c.variables c.literals w typed; rule_typed = tt };
-    symbols = tt;
-    shape = rw is (refl, converted-all c.literals w);
-  };
-}
+normal-follows : (c : ClauseTree) → IsTyped c → AreWell c.literals → IsGiven c (normal_clause c) convert
+normal-follows c typed w lines p within is h =
+    record {
+      parents = within;
+      literals = tt;
+      place = tt;
+      types = record { clause_typed = normals-typed c.variables c.literals w typed; rule_typed = tt };
+      symbols = tt;
+      shape = rw is (refl, converted-all c.literals w);
+    }
 
 -- a clause whose parts are read
 clause-read : (c : Contents) (k : Clause) (tree : ClauseTree) → map (type_at c) k.vars ≡ tree.variables → map (literal_at c) k.lits ≡ tree.literals → clause_at c k ≡ tree
@@ -124,20 +119,19 @@ module _ (vs ws : List SimpleType) (given : List Tree) (g : AreGivenOver vs ws g
   instance-given [] h = tt
   instance-given (l ∷ ls) h = (given-over vs ws given g l.left 0 h.0.left_over, given-over vs ws given g l.right 0 h.0.right_over, instance-given ls h.1)
 
-instance-follows : (c : ClauseTree) (new : List SimpleType) (given : List Tree) → IsTyped c → AreTermsIn new given → map type_of given ≡ c.variables → Follows [] c (record { clause = record { variables = new; literals = map (substituted_literal given) c.literals }; rule = λ p. inst p given })
-instance-follows c new given typed h e = record {
-  accepted = λ lines p within is k. record {
-    parents = within;
-    literals = tt;
-    place = tt;
-    types = record {
-      clause_typed = instance-typed c.variables new given (given-terms c.variables new given h e) c.literals typed;
-      rule_typed = rw is (terms-for c.variables new given h e, instance-given c.variables new given (given-terms c.variables new given h e) c.literals typed);
-    };
-    symbols = tt;
-    shape = rw is refl;
-  };
-}
+instance-follows : (c : ClauseTree) (new : List SimpleType) (given : List Tree) → IsTyped c → AreTermsIn new given → map type_of given ≡ c.variables → IsGiven c (record { variables = new; literals = map (substituted_literal given) c.literals }) (λ p. inst p given)
+instance-follows c new given typed h e lines p within is k =
+    record {
+      parents = within;
+      literals = tt;
+      place = tt;
+      types = record {
+        clause_typed = instance-typed c.variables new given (given-terms c.variables new given h e) c.literals typed;
+        rule_typed = rw is (terms-for c.variables new given h e, instance-given c.variables new given (given-terms c.variables new given h e) c.literals typed);
+      };
+      symbols = tt;
+      shape = rw is refl;
+    }
 
 pub sigma-given : (c : Contents) (k : Clause) (s : Sigma) → IsTypedIn c k → IsSigmaOf c (clause_at c k).variables s → AreGiven (map (tree_at c) s.terms) (map (literal_at c) k.lits)
 sigma-given c k s typed h =

@@ -1,18 +1,18 @@
 -- What is left of pairs: its parts, by the tops of both terms, and its normal forms.
-use Rattle.std.proofs.Common.{ℕ, nat_eq, ◌≡◌, ◌∙◌, Bool, true, false, ◌&&◌, List, [], ◌∷◌, ◌++◌, map, Option, Some, None, refl, sym, ap, arith}
+use Rattle.std.proofs.Common.{ℕ, nat_eq, ◌≡◌, Bool, true, false, ◌&&◌, List, [], ◌∷◌, ◌++◌, Option, Some, None, refl, ap, arith}
 use Rattle.std.specs.Prelude.{is_some, unwrap_or}
 use Rattle.std.specs.Bool.{if◌then◌else◌}
 use Rattle.std.specs.Option.{option_map}
 use Rattle.std.proofs.lemmas.Bool.Decides.{nat_tests}
 use Rattle.leo_q0.specs.Terms.{SimpleType, same_type}
 use Rattle.leo_q0.proofs.Variables.{equal_types}
-use Rattle.leo_terms.specs.Tree.{Tree, variable, bound, symbol, app, lam, logic, absent, codomain, Connective, truth, falsity, negation, disjunction, conjunction, implication, equality, universal, existential, choice, type_of}
-use Rattle.leo_terms.specs.Reduction.{IsForm, IsNormal, IsNeutral}
+use Rattle.leo_terms.specs.Tree.{Tree, variable, bound, symbol, app, lam, logic, absent, codomain, Connective, choice, type_of}
+use Rattle.leo_terms.specs.Reduction.{IsForm, IsNormal}
 use Rattle.leo_clause.specs.Sameness.{same_tree}
 use Rattle.leo_unify.specs.Pairs.{Pair, if_same}
-use Rattle.leo_unify.specs.Residues.{left_of, left_of_constant, left_of_arguments, residue}
-use Rattle.leo_unify.specs.Tops.{application_of, choice_by, choice_of, is_symbol}
-use Rattle.leo_unify.proofs.PairLemmas.{application-is, choice-is, left-app_none, left-choice_none, left-others}
+use Rattle.leo_unify.specs.Residues.{left_of_constant, left_of_arguments, residue}
+use Rattle.leo_unify.specs.Tops.{application_of, choice_of, is_symbol}
+use Rattle.leo_unify.proofs.PairLemmas.{choice-is, left-app_none, left-choice_none, left-others}
 use Rattle.leo_conclude.specs.Leaving.{parts_left}
 
 -- a test that gives a list

@@ -6,11 +6,11 @@ use Rattle.leo_q0.specs.Terms.{SimpleType, arrow}
 use Rattle.leo_terms.specs.Contents.{Contents, IsBank, tree_at}
 use Rattle.leo_terms.specs.Tree.{Tree, variable, bound, symbol, app, lam, logic, absent, choice, codomain, type_of}
 use Rattle.leo_terms.specs.Typing.{IsWellTyped, IsPresent}
-use Rattle.leo_terms.proofs.CallerLemmas.{term-typed, type_of-term, term-present}
+use Rattle.leo_terms.proofs.CallerLemmas.{term-typed}
 use Rattle.leo_clause.specs.declared.clause.Clause.{Clause}
 use Rattle.leo_clause.specs.declared.clause.Lit.{Lit}
 use Rattle.leo_clause.specs.Trees.{Literal, clause_at, literal_at}
-use Rattle.leo_clause.specs.Typed.{IsOver, IsTypedLiteral, AreTyped, IsTypedIn}
+use Rattle.leo_clause.specs.Typed.{IsOver, AreTyped, IsTypedIn}
 use Rattle.leo_kernel.specs.Conclusions.{Decomposes, applications, constants, NeverHolds, self_unequal, unequal_if_present}
 use Rattle.leo_kernel.specs.Conditions.{HaveOneHeadType}
 use Rattle.leo_kernel.specs.Shapes.{domain, unequal}

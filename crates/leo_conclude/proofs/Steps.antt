@@ -1,7 +1,7 @@
 -- Records that are accepted one after the other.
-use Rattle.std.proofs.Common.{ℕ, zero, suc, ◌≡◌, ◌∙◌, ◌+◌, ◌<◌, List, [], ◌∷◌, ◌++◌, length, map, take, slice_get, Some, refl, sym, ap, subst, append_assoc, append-nil, arith}
+use Rattle.std.proofs.Common.{ℕ, zero, suc, ◌≡◌, ◌∙◌, ◌<◌, List, [], ◌∷◌, ◌++◌, length, map, take, slice_get, Some, refl, sym, ap, subst, append_assoc, arith}
 use Rattle.std.proofs.lemmas.List.{map-append}
-use Rattle.leo_terms.specs.Contents.{Contents, tree_at}
+use Rattle.leo_terms.specs.Contents.{Contents}
 use Rattle.leo_clause.specs.declared.clause.Clause.{Clause}
 use Rattle.leo_clause.specs.declared.record.Rule.{Rule}
 use Rattle.leo_clause.specs.declared.record.StepRecord.{StepRecord}
@@ -13,7 +13,7 @@ use Rattle.leo_kernel.specs.Conditions.{HaveOneHeadType}
 use Rattle.leo_kernel.specs.Records.{AreTermsOfRule, AreStepsOf, IsStepOf}
 use Rattle.leo_kernel.specs.Steps.{StepRule, Line, clause_of, line_at, rule_at, decompose, literal_of}
 use Rattle.leo_clausify.specs.Leaves.{last_clause}
-use Rattle.leo_clausify.specs.Moves.{HaveChoices, Follows}
+use Rattle.leo_clausify.specs.Moves.{HaveChoices}
 use Rattle.leo_clausify.proofs.Following.{there, literal-there, literal-within}
 use Rattle.leo_clausify.proofs.Placing.{no-fresh, typed-placed}
 use Rattle.leo_conclude.specs.declared.derived.Derived.{Derived}
@@ -60,9 +60,13 @@ derived-first c start k typed reads = record {
   ends = sym reads;
 }
 
+-- from any line with the parent the rule gives the clause, without choice symbols
+abbrev pub IsGiven : ClauseTree → ClauseTree → (ℕ → StepRule) → Type 0
+IsGiven parent clause rule = (lines : List Line) (p : ℕ) → p < length lines → clause_of lines p ≡ parent → HaveChoices [] lines → Accepts [] lines (record { clause = clause; rule = rule p })
+
 -- a step more that follows from the clause
 pub derived-step : (c : Contents) (start : ClauseTree) (d r : Derived) (k : Clause) (rule : Rule) (make : ℕ → StepRule) → IsDerived c start d → r.clause ≡ k → r.records ≡ d.records ++ record { clause = k; rule = rule } ∷ [] → IsTypedIn c k → AreTermsOfRule c rule → rule_at c rule ≡ make (length d.records) →
-    Follows [] (clause_at c d.clause) (record { clause = clause_at c k; rule = make }) → IsDerived c start r
+    IsGiven (clause_at c d.clause) (clause_at c k) make → IsDerived c start r
 derived-step c start d r k rule make h p q typed terms is follows =
     let step : StepRecord = record { clause = k; rule = rule } in
     let lines = map (line_at c) d.records in
@@ -77,23 +81,22 @@ derived-step c start d r k rule make h p q typed terms is follows =
           let first : Line = record { clause = start; rule = rule } in
           let within : length d.records < length (first ∷ lines) = omega arith in
           let parent : clause_of (first ∷ lines) (length d.records) ≡ clause_at c d.clause = rw (← count) (last-line first lines ∙ h.ends) in
-          let a : Accepts [] (first ∷ lines) l = follows.accepted (first ∷ lines) (length d.records) within parent (no-choices (first ∷ lines)) in
+          let a : Accepts [] (first ∷ lines) l = follows (first ∷ lines) (length d.records) within parent (no-choices (first ∷ lines)) in
           subst (AreAcceptedAfter (first ∷ [])) (sym more) (accepted-more (first ∷ []) lines l (h.accepted rule) a);
       ends = ap (last_clause start) more ∙ last-more start lines l ∙ rw p refl;
     }
 
 -- an inequation and its parts
-pub decomposed-follows : (parent : ClauseTree) (i : ℕ) (l : Literal) (new : List Literal) → slice_get parent.literals i ≡ Some l → IsTyped parent → Decomposes l new → HaveOneHeadType l.left l.right → AreTyped parent.variables new → Follows [] parent (record { clause = with_new parent i [] new; rule = λ p. decompose p i })
-decomposed-follows parent i l new e typed d h g = record {
-  accepted = λ lines p within is k. record {
-    parents = within;
-    literals = literal-within lines p i parent l is e;
-    place = tt;
-    types = record {
-      clause_typed = typed-placed parent i [] new typed (no-fresh parent.variables new g);
-      rule_typed = there (literal_of lines p i) l (λ m. HaveOneHeadType m.left m.right) (literal-there lines p i parent l is e) h;
-    };
-    symbols = tt;
-    shape = there (literal_of lines p i) l (λ m. (ns : List Literal) × (Decomposes m ns × (with_new parent i [] new ≡ with_new (clause_of lines p) i [] ns))) (literal-there lines p i parent l is e) (new, (d, rw is refl));
-  };
-}
+pub decomposed-follows : (parent : ClauseTree) (i : ℕ) (l : Literal) (new : List Literal) → slice_get parent.literals i ≡ Some l → IsTyped parent → Decomposes l new → HaveOneHeadType l.left l.right → AreTyped parent.variables new → IsGiven parent (with_new parent i [] new) (λ p. decompose p i)
+decomposed-follows parent i l new e typed d h g lines p within is k =
+    record {
+      parents = within;
+      literals = literal-within lines p i parent l is e;
+      place = tt;
+      types = record {
+        clause_typed = typed-placed parent i [] new typed (no-fresh parent.variables new g);
+        rule_typed = there (literal_of lines p i) l (λ m. HaveOneHeadType m.left m.right) (literal-there lines p i parent l is e) h;
+      };
+      symbols = tt;
+      shape = there (literal_of lines p i) l (λ m. (ns : List Literal) × (Decomposes m ns × (with_new parent i [] new ≡ with_new (clause_of lines p) i [] ns))) (literal-there lines p i parent l is e) (new, (d, rw is refl));
+    }

@@ -1,11 +1,11 @@
 -- A clause with the records that lead to it from one line. No public contract speaks of it.
-use Rattle.std.specs.Prelude.{ℕ, ◌≡◌, ◌<◌, ◌≤◌, List, [], ◌∷◌, ◌++◌, length, map}
-use Rattle.leo_terms.specs.Contents.{Contents, tree_at}
+use Rattle.std.specs.Prelude.{◌≡◌, ◌<◌, ◌≤◌, List, [], ◌∷◌, ◌++◌, length, map}
+use Rattle.leo_terms.specs.Contents.{Contents}
 use Rattle.leo_clause.specs.Trees.{Literal, ClauseTree, clause_at}
 use Rattle.leo_clause.specs.Typed.{IsTypedIn}
 use Rattle.leo_kernel.specs.Acceptance.{AreAcceptedAfter}
 use Rattle.leo_kernel.specs.Records.{AreStepsOf}
-use Rattle.leo_kernel.specs.Steps.{StepRule, Line, line_at}
+use Rattle.leo_kernel.specs.Steps.{StepRule, line_at}
 use Rattle.leo_clausify.specs.Leaves.{last_clause}
 use Rattle.leo_clausify.specs.Splitting.{AreNormal}
 use Rattle.leo_conclude.specs.declared.derived.Derived.{Derived}

@@ -1,5 +1,5 @@
-use Rattle.std.proofs.Common.{◌+◌, ◌∷◌, ◌++◌, [], refl}
-use Rattle.leo_conclude.proofs.Constraining.{number-at, pair-next, pairs-all}
+use Rattle.std.proofs.Common.{refl}
+use Rattle.leo_conclude.proofs.Constraining.{number-at, pair-next}
 use Rattle.leo_conclude.proofs.concluding.pairs_of.Goals as goal
 
 pub bounds-as_slice-number : goal.bounds-as_slice-number

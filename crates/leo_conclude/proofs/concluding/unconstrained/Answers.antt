@@ -1,6 +1,5 @@
-use Rattle.std.proofs.Common.{◌≡◌, [], ◌∷◌, refl, sym, ◌∙◌, subst}
+use Rattle.std.proofs.Common.{◌≡◌, [], ◌∷◌, refl, ◌∙◌}
 use Rattle.leo_clause.specs.Trees.{clause_at}
-use Rattle.leo_conclude.specs.Results.{AreConclusionsOf}
 use Rattle.leo_conclude.proofs.Concluded.{conclusion_of, one-conclusion}
 use Rattle.leo_conclude.proofs.concluding.unconstrained.Goals as goal
 

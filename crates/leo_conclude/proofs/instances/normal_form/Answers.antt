@@ -1,4 +1,4 @@
-use Rattle.std.proofs.Common.{◌∙◌, ap}
+use Rattle.std.proofs.Common.{◌∙◌}
 use Rattle.leo_conclude.proofs.Inferring.{normal-first}
 use Rattle.leo_conclude.proofs.instances.normal_form.Goals as goal
 

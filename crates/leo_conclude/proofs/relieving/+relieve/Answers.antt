@@ -1,10 +1,10 @@
-use Rattle.std.proofs.Common.{sym, ◌∙◌, refl, arith, Some}
+use Rattle.std.proofs.Common.{sym, ◌∙◌, refl, arith}
 use Rattle.leo_terms.specs.Contents.{tree_at, type_at}
 use Rattle.leo_unify.specs.Residues.{residue}
 use Rattle.leo_unify.proofs.PairLemmas.{residue-equal}
 use Rattle.leo_conclude.specs.Leaving.{parts_left}
-use Rattle.leo_conclude.proofs.Residues.{parts-choices, parts-no_application, parts-no_choice, parts-symbol}
-use Rattle.leo_conclude.proofs.Resting.{application-in, applications-leave, applications-parts, applications-stand, applied-leave, apart-typed, arguments-stand, choices-leave, choices-typed, equal-leave, equal-terms, functions-stand, functions-typed, no-parts-left, parts-are-left, properties-stand, stands-in, whole-leave}
+use Rattle.leo_conclude.proofs.Residues.{parts-choices, parts-symbol}
+use Rattle.leo_conclude.proofs.Resting.{application-in, applications-leave, applications-parts, applications-stand, apart-typed, arguments-stand, choices-leave, choices-typed, equal-leave, equal-terms, functions-stand, functions-typed, no-parts-left, parts-are-left, properties-stand, whole-leave}
 use Rattle.leo_conclude.proofs.relieving.+relieve.Goals as goal
 
 pub relieve-returns-then-eq : goal.relieve-returns-then-eq
