@@ -17,7 +17,8 @@ use Rattle.leo_clausify.proofs.Placing.{no-fresh, typed-placed}
 use Rattle.leo_conclude.specs.declared.derived.Derived.{Derived}
 use Rattle.leo_conclude.specs.Deriving.{IsChanged}
 use Rattle.leo_conclude.proofs.Between.{between-get, between-with}
-use Rattle.leo_conclude.proofs.Steps.{derived-step, decomposed-follows}
+use Rattle.leo_conclude.proofs.Origins.{clause-with, literal-at, parts-from}
+use Rattle.leo_conclude.proofs.Steps.{derived-step, decomposed-follows, from-read}
 
 longer-more : {X : Type 0} (xs ys : List X) (x : X) → ys ≡ xs ++ x ∷ [] → length xs ≤ length ys
 longer-more xs ys x e = (let f = ap length e in let g = length-append xs (x ∷ []) in omega arith)
@@ -52,7 +53,9 @@ module _ (c : Contents) (b : IsBank c) (d r : Derived) (k : Clause) (at : ℕ) (
         literals = literals-now front back l is count ∙ rw none refl;
         longer = longer-more d.records r.records _ records;
         derived = λ start h. derived-step c start d r k (record_of.Drop (length d.records) at) (λ p. drop_literal p at) h clause records t tt refl
-            (rw (reads, none) (omitted-follows [] (clause_at c d.clause) at l get typed.typed never).accepted);
+            (rw (reads, none) (omitted-follows [] (clause_at c d.clause) at l get typed.typed never).accepted)
+            (from-read start (clause_at c d.clause) (clause_at c d.clause) (clause_at c k) (with_new (clause_at c d.clause) at [] []) (drop_literal (length d.records) at) refl (reads ∙ ap (λ (ls : List Lit). with_new (clause_at c d.clause) at [] (map (literal_at c) ls)) none)
+            (λ o b s p. (clause-with o b (clause_at c d.clause) at [] [] p tt tt, tt)));
       }
 
   -- an inequation becomes its parts
@@ -66,7 +69,9 @@ module _ (c : Contents) (b : IsBank c) (d r : Derived) (k : Clause) (at : ℕ) (
         literals = literals-now front back l is count;
         longer = longer-more d.records r.records _ records;
         derived = λ start h. derived-step c start d r k (record_of.Decompose (length d.records) at) (λ p. decompose p at) h clause records t tt refl
-            (rw reads (decomposed-follows (clause_at c d.clause) at l (map (literal_at c) new) get typed.typed decomposes one typed-new));
+            (rw reads (decomposed-follows (clause_at c d.clause) at l (map (literal_at c) new) get typed.typed decomposes one typed-new))
+            (from-read start (clause_at c d.clause) (clause_at c d.clause) (clause_at c k) (with_new (clause_at c d.clause) at [] (map (literal_at c) new)) (decompose (length d.records) at) refl reads
+            (λ o b s p. (clause-with o b (clause_at c d.clause) at [] (map (literal_at c) new) p tt (parts-from o b l (map (literal_at c) new) decomposes (literal-at o (clause_at c d.clause).literals at l p.1 get)), tt)));
       }
 
 -- one change after the other

@@ -31,7 +31,10 @@ use Rattle.leo_unify.specs.Search.{AreSolutions, Solution}
 use Rattle.leo_unify.specs.Solutions.{AreSigmasOf, IsSigmaOf, sigma_at}
 use Rattle.leo_unify.specs.declared.sigma.Sigma.{Sigma}
 use Rattle.leo_unify.proofs.SearchLemmas.{sigmas-grow, sigmas-kept}
-use Rattle.leo_conclude.specs.Conclusions.{AreConclusions, unconstrained, solved, conclusion, constraint_pairs, instance, normal_clause, relieved, rest_of, unequal_pair}
+use Rattle.leo_conclude.specs.Conclusions.{AreConclusions, unconstrained, solved, conclusion, constraint_pairs, instance, normal_clause, relieved, rest_of, sides_of, unequal_pair}
+use Rattle.leo_unify.specs.Laws.{SolutionsAreFromPairs}
+use Rattle.leo_unify.specs.Origins.{Origin, ArePairsFrom, AreSolutionsFrom, AreTermsFrom, AreTypesFrom}
+use Rattle.leo_conclude.specs.Origins.{AreLinesFrom, AreLiteralsFrom, AreSolutionsFromClause, IsClauseFrom, IsSolutionFrom}
 use Rattle.leo_conclude.specs.Leaving.{AreConstraints}
 use Rattle.leo_conclude.proofs.Residues.{ArePairsNormal, residue-normal}
 use Rattle.leo_conclude.specs.declared.concluding.Conclusion.{Conclusion}
@@ -44,7 +47,7 @@ abbrev pub conclusion_of : Derived → Conclusion
 conclusion_of d = record { clause = d.clause; records = d.records }
 
 pub derived-concluded : (c : Contents) (start : ClauseTree) (d : Derived) → IsDerived c start d → 0 < length d.records → AreNormal (clause_at c d.clause).literals → IsConclusionOf c start (conclusion_of d)
-derived-concluded c start d h some normal = record { typed = h.typed; normal = normal; steps = h.steps; accepted = h.accepted; some = some; ends = h.ends }
+derived-concluded c start d h some normal = record { typed = h.typed; normal = normal; steps = h.steps; accepted = h.accepted; some = some; ends = h.ends; origin = h.origin }
 
 pub one-conclusion : (c : Contents) (start : ClauseTree) (d : Derived) (tree : ClauseTree) → IsDerivedAs c start d tree → AreConclusionsOf c start (conclusion_of d ∷ [])
 one-conclusion c start d tree h zero r e = let f : conclusion_of d ≡ r = cc in subst (IsConclusionOf c start) f (derived-concluded c start d h.derived h.some (subst (λ (t : ClauseTree). AreNormal t.literals) (sym h.reads) h.normal))
@@ -144,6 +147,7 @@ module _ {c d : Contents} (e : Extends c d) (start : ClauseTree) where
         accepted = λ rule. subst (AreAcceptedAfter (record { clause = start; rule = rule } ∷ [])) (sym l) (h.accepted rule);
         some = h.some;
         ends = ap (last_clause start) l ∙ h.ends ∙ sym k;
+        origin = λ o z g. subst (AreLinesFrom o) (sym l) (h.origin o z g);
       }
 
   conclusions-kept : (rs : List Conclusion) → AreConclusionsOf c start rs → map (conclusion_clause d) rs ≡ map (conclusion_clause c) rs
@@ -191,6 +195,25 @@ module _ {c d : Contents} (e : Extends c d) (k : Clause) (typed : IsTypedIn c k)
       let grown = sigmas-grow e (clause_at c k).variables (s ∷ []) (g, tt) in
       subst (λ (t : ClauseTree). IsSigmaOf d t.variables s) (sym kept) grown.0
 
+solution-at : (o : Origin) (ss : List Solution) (i : ℕ) (s : Solution) → AreSolutionsFrom o ss → slice_get ss i ≡ Some s → AreTypesFrom o s.variables × AreTermsFrom o s.terms
+solution-at o [] i s h e = absurd (cc)
+solution-at o (t ∷ ss) zero s h e = (let f : t ≡ s = cc in rw (← f) (h.0, h.1))
+solution-at o (t ∷ ss) (suc i) s h e = solution-at o ss i s h.2 e
+
+mapped-at : {X Y : Type 0} (f : X → Y) (xs : List X) (i : ℕ) (x : X) → i < length xs → x ≡ slice_index_or xs i x → slice_get (map f xs) i ≡ Some (f x)
+mapped-at f [] i x l e = absurd (omega arith)
+mapped-at f (y ∷ xs) zero x l e = let g : x ≡ y = e in rw g refl
+mapped-at f (y ∷ xs) (suc i) x l e = mapped-at f xs i x (omega arith) e
+
+module _ {b c : Contents} (e : Extends b c) (k : Clause) (typed : IsTypedIn b k) (ss : List Sigma) (sigmas : AreSigmasOf b (clause_at b k).variables ss) (i : ℕ) (s : Sigma) (lt : i < length ss) (is : s ≡ slice_index_or ss i s) where
+  pub solution-there : AreSolutionsFromClause (clause_at b k) (map (sigma_at b) ss) → IsSolutionFrom (clause_at c k) (sigma_at c s)
+  solution-there from =
+      let one = sigma-at b (clause_at b k).variables ss i s sigmas lt is in
+      let all = sigmas-kept e (clause_at b k).variables (s ∷ []) (one, tt) in
+      let same : sigma_at c s ≡ sigma_at b s = cc in
+      let old : IsSolutionFrom (clause_at b k) (sigma_at b s) = λ o z g. solution-at o (map (sigma_at b) ss) i (sigma_at b s) (from o z g) (mapped-at (sigma_at b) ss i s lt is) in
+      subst (λ (t : ClauseTree). IsSolutionFrom t (sigma_at c s)) (sym (kept e k typed)) (subst (IsSolutionFrom (clause_at b k)) (sym same) old)
+
 module _ {b c d : Contents} (e : Extends b c) (f : Extends c d) (k : Clause) (typed : IsTypedIn b k) (constraints : List ℕ) (ss : List Sigma) (sigmas : AreSigmasOf b (clause_at b k).variables ss) (i : ℕ) (s : Sigma) (lt : i < length ss) (is : s ≡ slice_index_or ss i s) where
   pub solution-next : (found : List Conclusion) (next : Conclusion) → AreConclusionsOf c (clause_at b k) found → map (conclusion_clause c) found ≡ map (conclusion (clause_at b k) constraints) (map (sigma_at b) (take i ss)) → IsConclusionOf d (clause_at c k) next → conclusion_clause d next ≡ conclusion (clause_at c k) constraints (sigma_at c s) →
       AreConclusionsOf d (clause_at b k) (found ++ next ∷ []) × (map (conclusion_clause d) (found ++ next ∷ []) ≡ map (conclusion (clause_at b k) constraints) (map (sigma_at b) (take (i + 1) ss)))
@@ -231,6 +254,25 @@ module _ {b c : Contents} (e : Extends b c) (k : Clause) (typed : IsTypedIn b k)
 
   pub sigmas-over : (ss : List Sigma) → AreSigmasOf c (clause_at b k).variables ss → AreSigmasOf c (clause_at c k).variables ss
   sigmas-over ss h = subst (λ (t : ClauseTree). AreSigmasOf c t.variables ss) (sym (kept e k typed)) h
+
+  -- the pairs of constraints are sides of literals
+  sides-from : (o : Origin) (ls : List Literal) (n : ℕ) → AreLiteralsFrom o ls → ArePairsFrom o (sides_of (slice_get ls n))
+  sides-from o [] n h = tt
+  sides-from o (l ∷ ls) zero h = (h.0.0, h.0.1, tt)
+  sides-from o (l ∷ ls) (suc n) h = sides-from o ls n h.1
+
+  pairs-append : (o : Origin) (ps qs : List Pair) → ArePairsFrom o ps → ArePairsFrom o qs → ArePairsFrom o (ps ++ qs)
+  pairs-append o [] qs h g = g
+  pairs-append o (p ∷ ps) qs h g = (h.0, h.1, pairs-append o ps qs h.2 g)
+
+  pairs-from : (o : Origin) (t : ClauseTree) (ns : List ℕ) → IsClauseFrom o t → ArePairsFrom o (constraint_pairs t ns)
+  pairs-from o t [] h = tt
+  pairs-from o t (n ∷ ns) h = pairs-append o (sides_of (slice_get t.literals n)) (constraint_pairs t ns) (sides-from o t.literals n h.1) (pairs-from o t ns h)
+
+  pub found-from : SolutionsAreFromPairs → (constraints : List ℕ) (depth : ℕ) (pairs : List (ℕ × ℕ)) (solutions : List Solution) → map (pair_of b) pairs ≡ constraint_pairs (clause_at b k) constraints → AreSolutions (clause_at b k).variables (map (pair_of b) pairs) depth solutions → AreSolutionsFromClause (clause_at c k) solutions
+  found-from law constraints depth pairs solutions reads finds o z g =
+      let old : IsClauseFrom o (clause_at b k) = subst (IsClauseFrom o) (kept e k typed) g in
+      law 16 (clause_at b k).variables (map (pair_of b) pairs) depth solutions finds o z old.0 (subst (ArePairsFrom o) (sym reads) (pairs-from o (clause_at b k) constraints old))
 
   pub start-back : (d : Contents) (rs : List Conclusion) → AreConclusionsOf d (clause_at c k) rs → AreConclusionsOf d (clause_at b k) rs
   start-back d rs h = subst (λ (t : ClauseTree). AreConclusionsOf d t rs) (kept e k typed) h

@@ -26,7 +26,9 @@ use Rattle.leo_unify.proofs.Over.{given-over, over-lifted_closed, over-substitut
 use Rattle.leo_conclude.specs.declared.derived.Derived.{Derived}
 use Rattle.leo_conclude.specs.Conclusions.{instance, normal_clause}
 use Rattle.leo_conclude.specs.Deriving.{IsDerived, IsDerivedAs}
-use Rattle.leo_conclude.proofs.Steps.{IsGiven, derived-first, derived-step}
+use Rattle.leo_conclude.specs.Origins.{IsSolutionFrom}
+use Rattle.leo_conclude.proofs.Origins.{literals-substituted, normals-from}
+use Rattle.leo_conclude.proofs.Steps.{IsGiven, derived-first, derived-step, from-read}
 
 -- a clause and its normal form
 converted-all : (ls : List Literal) → AreWell ls → AreConverted ls (map normal_literal ls)
@@ -74,7 +76,8 @@ module _ {b c : Contents} (e : Extends b c) (start : ClauseTree) (d r : Derived)
   normal-derived =
       let t = typed-read c k (normal_clause tree) types literals.literals_of now (normals-typed tree.variables tree.literals well typed) in
       record {
-        derived = derived-step c start d r k (record_of.Convert (length d.records)) convert derived clause records t tt refl (rw (reads, now) (normal-follows tree typed well));
+        derived = derived-step c start d r k (record_of.Convert (length d.records)) convert derived clause records t tt refl (rw (reads, now) (normal-follows tree typed well))
+            (from-read start (clause_at c d.clause) tree (clause_at c k) (normal_clause tree) (convert (length d.records)) reads now (λ o b s p. ((p.0, normals-from o b tree.literals p.1), tt)));
         some = rw records (some-more d.records _);
         reads = ap (clause_at c) clause ∙ now;
         normal = normals-normal tree.literals well;
@@ -141,7 +144,7 @@ sigma-given c k s typed h =
     instance-given vs ws given (given-terms vs ws given h.terms_in h.typed) (clause_at c k).literals typed.typed
 
 -- the instance under a solution, as the bank grows
-module _ {b c d : Contents} (e : Extends b c) (f : Extends c d) (k : Clause) (s : Sigma) (typed : IsTypedIn b k) (sigma : IsSigmaOf b (clause_at b k).variables s) (lits normals : List Lit) (made : AreRenamed b c s.terms k.lits lits (length k.lits)) (normal : AreLiterals d normals (map normal_literal (map (literal_at c) lits))) (first second last : Derived) (vars terms normal_vars : List ℕ) (vars_are : vars ≡ s.vars) (normal_vars_are : normal_vars ≡ s.vars) (terms_are : terms ≡ s.terms) (unchanged : first ≡ record { clause = k; records = [] })
+module _ {b c d : Contents} (e : Extends b c) (f : Extends c d) (k : Clause) (s : Sigma) (typed : IsTypedIn b k) (sigma : IsSigmaOf b (clause_at b k).variables s) (from : IsSolutionFrom (clause_at b k) (sigma_at b s)) (lits normals : List Lit) (made : AreRenamed b c s.terms k.lits lits (length k.lits)) (normal : AreLiterals d normals (map normal_literal (map (literal_at c) lits))) (first second last : Derived) (vars terms normal_vars : List ℕ) (vars_are : vars ≡ s.vars) (normal_vars_are : normal_vars ≡ s.vars) (terms_are : terms ≡ s.terms) (unchanged : first ≡ record { clause = k; records = [] })
     (second_clause : second.clause ≡ record { vars = vars; lits = lits }) (second_records : second.records ≡ first.records ++ record { clause = record { vars = vars; lits = lits }; rule = record_of.Inst 0 terms } ∷ [])
     (last_clause : last.clause ≡ record { vars = normal_vars; lits = normals }) (last_records : last.records ≡ second.records ++ record { clause = record { vars = normal_vars; lits = normals }; rule = record_of.Convert 1 } ∷ []) where
   all : Extends b d
@@ -189,6 +192,7 @@ module _ {b c d : Contents} (e : Extends b c) (f : Extends c d) (k : Clause) (s 
       let count : length first.records ≡ 0 = ap (λ (x : Derived). length x.records) unchanged in
       derived-step d (clause_at b k) first second new (record_of.Inst 0 terms) (λ p. inst p (map (tree_at b) s.terms)) first-derived second_clause second_records t (rw terms_are (are_terms-kept all s.terms sigma.terms_of)) (rw (terms-read, count) refl)
       (rw (parent, second-read) (instance-follows (clause_at b k) (map (type_at b) s.vars) (map (tree_at b) s.terms) typed.typed sigma.terms_in sigma.typed))
+      (from-read (clause_at b k) (clause_at d first.clause) (clause_at b k) (clause_at d new) middle (inst (length first.records) (map (tree_at b) s.terms)) parent second-read (λ o z g p. (let f = from o z g in ((f.0, literals-substituted o z (map (tree_at b) s.terms) f.1 (clause_at b k).literals g.1), f.1))))
 
   pub instance-derived : IsDerivedAs d (clause_at b k) last (instance (clause_at b k) (sigma_at b s))
   instance-derived =

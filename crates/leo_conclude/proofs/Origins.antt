@@ -6,7 +6,8 @@ use Rattle.leo_terms.specs.Tree.{codomain, Tree, variable, bound, symbol, app, l
 use Rattle.leo_terms.specs.NormalForm.{type_size, applied, put_by, put_within, contracted, expanded, eta_long, normal_form}
 use Rattle.leo_clause.specs.Renaming.{substituted_literal}
 use Rattle.leo_clause.specs.Trees.{Literal, ClauseTree}
-use Rattle.leo_kernel.specs.Conclusions.{with_literals, with_new}
+use Rattle.leo_kernel.specs.Conclusions.{Decomposes, applications, constants, unequal_if_present, with_literals, with_new}
+use Rattle.leo_clausify.specs.Splitting.{normal_literal}
 use Rattle.leo_kernel.specs.Steps.{Line}
 use Rattle.leo_unify.specs.Origins.{Origin, IsTypeFrom, AreTypesFrom, IsConstantFrom, IsTermFrom, AreTermsFrom}
 use Rattle.leo_conclude.specs.Origins.{AreLinesFrom, AreLiteralsFrom, IsClauseFrom, IsLiteralFrom}
@@ -171,3 +172,21 @@ module _ (o : Origin) (zero_base : o.has_base 0 ≡ true) where
 
   pub clause-with : (c : ClauseTree) (i : ℕ) (fresh : List SimpleType) (new : List Literal) → IsClauseFrom o c → AreTypesFrom o fresh → AreLiteralsFrom o new → IsClauseFrom o (with_new c i fresh new)
   clause-with c i fresh new h f k = (types-append c.variables fresh h.0 f, literals-with o c.literals i new h.1 k)
+
+  pub normals-from : (ls : List Literal) → AreLiteralsFrom o ls → AreLiteralsFrom o (map normal_literal ls)
+  normals-from [] h = tt
+  normals-from (l ∷ ls) h = ((from-normal_form l.left h.0.0, from-normal_form l.right h.0.1), normals-from ls h.1)
+
+  present-from : (x y : Tree) → IsTermFrom o x → IsTermFrom o y → AreLiteralsFrom o (unequal_if_present x y)
+  present-from absent y h g = tt
+  present-from (variable n a) y h g = ((h, g), tt)
+  present-from (bound i a) y h g = ((h, g), tt)
+  present-from (symbol n a) y h g = ((h, g), tt)
+  present-from (app f x) y h g = ((h, g), tt)
+  present-from (lam a t) y h g = ((h, g), tt)
+  present-from (logic c x z) y h g = ((h, g), tt)
+
+  -- the parts of an inequation
+  pub parts-from : (l : Literal) (new : List Literal) → Decomposes l new → IsLiteralFrom o l → AreLiteralsFrom o new
+  parts-from _ _ (applications f g x y) h = ((h.0.0, h.1.0), ((h.0.1, h.1.1), tt))
+  parts-from _ _ (constants c x y z w) h = literals-append o (unequal_if_present x z) (unequal_if_present y w) (present-from x z h.0.1 h.1.1) (present-from y w h.0.2 h.1.2)

@@ -1,5 +1,5 @@
 -- Records that are accepted one after the other.
-use Rattle.std.proofs.Common.{ℕ, zero, suc, ◌≡◌, ◌∙◌, ◌<◌, List, [], ◌∷◌, ◌++◌, length, map, take, slice_get, Some, refl, sym, ap, subst, append_assoc, arith}
+use Rattle.std.proofs.Common.{ℕ, zero, suc, ◌≡◌, ◌∙◌, ◌<◌, List, [], ◌∷◌, ◌++◌, length, map, take, true, slice_get, Some, refl, sym, ap, subst, append_assoc, arith}
 use Rattle.std.proofs.lemmas.List.{map-append}
 use Rattle.leo_terms.specs.Contents.{Contents}
 use Rattle.leo_clause.specs.declared.clause.Clause.{Clause}
@@ -16,6 +16,9 @@ use Rattle.leo_clausify.specs.Leaves.{last_clause}
 use Rattle.leo_clausify.specs.Moves.{HaveChoices}
 use Rattle.leo_clausify.proofs.Following.{there, literal-there, literal-within}
 use Rattle.leo_clausify.proofs.Placing.{no-fresh, typed-placed}
+use Rattle.leo_unify.specs.Origins.{Origin}
+use Rattle.leo_conclude.specs.Origins.{AreLinesFrom, IsClauseFrom, IsRuleFrom}
+use Rattle.leo_conclude.proofs.Origins.{lines-append}
 use Rattle.leo_conclude.specs.declared.derived.Derived.{Derived}
 use Rattle.leo_conclude.specs.Deriving.{IsDerived}
 
@@ -58,16 +61,28 @@ derived-first c start k typed reads = record {
   steps = λ n s e. absurd (cc);
   accepted = λ rule n s e. absurd (cc);
   ends = sym reads;
+  origin = λ o b h. tt;
 }
 
 -- from any line with the parent the rule gives the clause, without choice symbols
 abbrev pub IsGiven : ClauseTree → ClauseTree → (ℕ → StepRule) → Type 0
 IsGiven parent clause rule = (lines : List Line) (p : ℕ) → p < length lines → clause_of lines p ≡ parent → HaveChoices [] lines → Accepts [] lines (record { clause = clause; rule = rule p })
 
+-- base types and symbols of the clause and of what the rule has come from the parent and from the first clause
+abbrev pub IsFromBoth : ClauseTree → ClauseTree → ClauseTree → StepRule → Type 0
+IsFromBoth start parent clause rule = (o : Origin) → o.has_base 0 ≡ true → IsClauseFrom o start → IsClauseFrom o parent → IsClauseFrom o clause × IsRuleFrom o rule
+
+pub from-read : (start p q c d : ClauseTree) (rule : StepRule) → p ≡ q → c ≡ d → IsFromBoth start q d rule → IsFromBoth start p c rule
+from-read start p q c d rule e f h = rw (e, f) h
+
+last-from : (o : Origin) (c : ClauseTree) (ls : List Line) → IsClauseFrom o c → AreLinesFrom o ls → IsClauseFrom o (last_clause c ls)
+last-from o c [] h g = h
+last-from o c (l ∷ ls) h g = last-from o l.clause ls g.0.0 g.1
+
 -- a step more that follows from the clause
 pub derived-step : (c : Contents) (start : ClauseTree) (d r : Derived) (k : Clause) (rule : Rule) (make : ℕ → StepRule) → IsDerived c start d → r.clause ≡ k → r.records ≡ d.records ++ record { clause = k; rule = rule } ∷ [] → IsTypedIn c k → AreTermsOfRule c rule → rule_at c rule ≡ make (length d.records) →
-    IsGiven (clause_at c d.clause) (clause_at c k) make → IsDerived c start r
-derived-step c start d r k rule make h p q typed terms is follows =
+    IsGiven (clause_at c d.clause) (clause_at c k) make → IsFromBoth start (clause_at c d.clause) (clause_at c k) (make (length d.records)) → IsDerived c start r
+derived-step c start d r k rule make h p q typed terms is follows from =
     let step : StepRecord = record { clause = k; rule = rule } in
     let lines = map (line_at c) d.records in
     let l : Line = record { clause = clause_at c k; rule = make (length d.records) } in
@@ -84,6 +99,10 @@ derived-step c start d r k rule make h p q typed terms is follows =
           let a : Accepts [] (first ∷ lines) l = follows (first ∷ lines) (length d.records) within parent (no-choices (first ∷ lines)) in
           subst (AreAcceptedAfter (first ∷ [])) (sym more) (accepted-more (first ∷ []) lines l (h.accepted rule) a);
       ends = ap (last_clause start) more ∙ last-more start lines l ∙ rw p refl;
+      origin = λ o b g.
+          let old = h.origin o b g in
+          let parent : IsClauseFrom o (clause_at c d.clause) = subst (IsClauseFrom o) h.ends (last-from o start lines g old) in
+          subst (AreLinesFrom o) (sym more) (lines-append o lines (l ∷ []) old (from o b g parent, tt));
     }
 
 -- an inequation and its parts

@@ -1,5 +1,5 @@
 -- A clause with the records that lead to it from one line. No public contract speaks of it.
-use Rattle.std.specs.Prelude.{◌≡◌, ◌<◌, ◌≤◌, List, [], ◌∷◌, ◌++◌, length, map}
+use Rattle.std.specs.Prelude.{◌≡◌, true, ◌<◌, ◌≤◌, List, [], ◌∷◌, ◌++◌, length, map}
 use Rattle.leo_terms.specs.Contents.{Contents}
 use Rattle.leo_clause.specs.Trees.{Literal, ClauseTree, clause_at}
 use Rattle.leo_clause.specs.Typed.{IsTypedIn}
@@ -8,14 +8,18 @@ use Rattle.leo_kernel.specs.Records.{AreStepsOf}
 use Rattle.leo_kernel.specs.Steps.{StepRule, line_at}
 use Rattle.leo_clausify.specs.Leaves.{last_clause}
 use Rattle.leo_clausify.specs.Splitting.{AreNormal}
+use Rattle.leo_unify.specs.Origins.{Origin}
+use Rattle.leo_conclude.specs.Origins.{AreLinesFrom, IsClauseFrom}
 use Rattle.leo_conclude.specs.declared.derived.Derived.{Derived}
 
--- the records are accepted after a line with the clause `start`, by whatever rule it comes, and end in the clause
+-- the records are accepted after a line with the clause `start`, by whatever rule it comes, and end in the clause; base types and
+-- symbols in them come from that clause
 pub record IsDerived (c : Contents) (start : ClauseTree) (d : Derived) : Type 0 where
   pub typed : IsTypedIn c d.clause
   pub steps : AreStepsOf c d.records
   pub accepted : (rule : StepRule) → AreAcceptedAfter (record { clause = start; rule = rule } ∷ []) (map (line_at c) d.records)
   pub ends : last_clause start (map (line_at c) d.records) ≡ clause_at c d.clause
+  pub origin : (o : Origin) → o.has_base 0 ≡ true → IsClauseFrom o start → AreLinesFrom o (map (line_at c) d.records)
 
 -- this clause is derived, and is in normal form
 pub record IsDerivedAs (c : Contents) (start : ClauseTree) (d : Derived) (tree : ClauseTree) : Type 0 where

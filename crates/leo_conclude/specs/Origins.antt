@@ -2,7 +2,8 @@
 use Rattle.std.specs.Prelude.{◌≡◌, true, List, [], ◌∷◌}
 use Rattle.leo_clause.specs.Trees.{Literal, ClauseTree}
 use Rattle.leo_kernel.specs.Steps.{StepRule, assume, convert, inst, para, arrange, drop_literal, take_apart, bool_ext, func_ext, decompose, reflexivity, choose, factor, abbreviate, Line}
-use Rattle.leo_unify.specs.Origins.{Origin, AreTypesFrom, IsTermFrom, AreTermsFrom}
+use Rattle.leo_unify.specs.Origins.{Origin, AreTypesFrom, IsTermFrom, AreTermsFrom, AreSolutionsFrom}
+use Rattle.leo_unify.specs.Search.{Solution}
 
 abbrev pub IsLiteralFrom : Origin → Literal → Type 0
 IsLiteralFrom o l = IsTermFrom o l.left × IsTermFrom o l.right
@@ -35,3 +36,10 @@ IsRuleFrom o (factor p i j) = Unit {0}
 abbrev pub AreLinesFrom : Origin → List Line → Type 0
 AreLinesFrom o [] = Unit {0}
 AreLinesFrom o (l ∷ ls) = (IsClauseFrom o l.clause × IsRuleFrom o l.rule) × AreLinesFrom o ls
+
+-- each base type of a solution is `$o` or stands in the clause, and each symbol stands there. For private contracts, as what follows
+abbrev pub IsSolutionFrom : ClauseTree → Solution → Type 0
+IsSolutionFrom c s = (o : Origin) → o.has_base 0 ≡ true → IsClauseFrom o c → AreTypesFrom o s.variables × AreTermsFrom o s.terms
+
+abbrev pub AreSolutionsFromClause : ClauseTree → List Solution → Type 0
+AreSolutionsFromClause c solutions = (o : Origin) → o.has_base 0 ≡ true → IsClauseFrom o c → AreSolutionsFrom o solutions

@@ -8,6 +8,7 @@ ghost use Rattle.leo_unify.specs.Given.{pair_of, AreTypedPairs};
 ghost use Rattle.leo_unify.specs.Solutions.{sigma_at, AreSigmasOf, IsSigmaOf};
 ghost use Rattle.leo_conclude.specs.Conclusions.{conclusion, constraint_pairs, normal_clause, AreConclusions};
 ghost use Rattle.leo_conclude.specs.Leaving.{AreConstraints, AreNumbersOf};
+ghost use Rattle.leo_conclude.specs.Origins.{AreSolutionsFromClause, IsSolutionFrom};
 ghost use Rattle.leo_conclude.specs.Results.{conclusion_clause, AreConclusionsOf, IsConclusionOf};
 
 use crate::derived::Derived;
@@ -16,6 +17,7 @@ use crate::relieving::relieve_all;
 use leo_clause::{Clause, StepRecord};
 use leo_items::Items;
 use leo_terms::{Bank, TermId};
+use leo_unify::laws::solutions_are_from_pairs;
 use leo_unify::{Sigma, solve};
 use std::alloc::{AllocError, Global};
 
@@ -71,6 +73,7 @@ fn concluded(
     requires clause { IsTypedIn bank.old clause.now }
     requires constraints { AreConstraints (clause_at bank.old clause.now).literals constraints.now }
     requires sigma { IsSigmaOf bank.old (clause_at bank.old clause.now).variables sigma.now }
+    requires from { IsSolutionFrom (clause_at bank.old clause.now) (sigma_at bank.old sigma.now) }
     ensures conclusion { IfOk result (IsConclusionOf bank.new (clause_at bank.old clause.now)) }
     ensures clause { IfOk result (λ r. conclusion_clause bank.new r ≡ conclusion (clause_at bank.old clause.now) constraints.now (sigma_at bank.old sigma.now)) }
     ensures grows { Extends bank.old bank.new }
@@ -91,6 +94,7 @@ fn concluded_all(
     requires clause { IsTypedIn bank.old clause.now }
     requires constraints { AreConstraints (clause_at bank.old clause.now).literals constraints.now }
     requires sigmas { AreSigmasOf bank.old (clause_at bank.old clause.now).variables sigmas.now }
+    requires from { AreSolutionsFromClause (clause_at bank.old clause.now) (map (sigma_at bank.old) sigmas.now) }
     ensures each { IfOk result (AreConclusionsOf bank.new (clause_at bank.old clause.now)) }
     ensures clauses { IfOk result (λ rs. map (conclusion_clause bank.new) rs ≡ map (conclusion (clause_at bank.old clause.now) constraints.now) (map (sigma_at bank.old) sigmas.now)) }
     ensures grows { Extends bank.old bank.new }
@@ -144,6 +148,7 @@ pub fn conclusions(
         let found = unconstrained(alloc, bank, clause)?;
         return Ok(found);
     }
+    solutions_are_from_pairs();
     let pairs = pairs_of(alloc, bank, clause, constraints)?;
     let vars = clause.vars.as_slice();
     let sigmas = solve(alloc, bank, vars, pairs.as_slice(), depth)?;

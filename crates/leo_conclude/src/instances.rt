@@ -10,6 +10,7 @@ ghost use Rattle.leo_clausify.specs.Splitting.{normal_literal};
 ghost use Rattle.leo_unify.specs.Solutions.{sigma_at, IsSigmaOf};
 ghost use Rattle.leo_conclude.specs.Conclusions.{instance as instance_of, normal_clause};
 ghost use Rattle.leo_conclude.specs.Deriving.{IsDerivedAs};
+ghost use Rattle.leo_conclude.specs.Origins.{IsSolutionFrom};
 ghost use Rattle.leo_terms.specs.Tree.{IsGiven};
 ghost use Rattle.leo_clause.specs.Renaming.{AreRenamed};
 
@@ -121,6 +122,7 @@ pub(crate) fn instance(
 ) -> Result<Derived, AllocError>
     requires clause { IsTypedIn bank.old clause.now }
     requires sigma { IsSigmaOf bank.old (clause_at bank.old clause.now).variables sigma.now }
+    requires from { IsSolutionFrom (clause_at bank.old clause.now) (sigma_at bank.old sigma.now) }
     ensures derived { IfOk result (λ d. IsDerivedAs bank.new (clause_at bank.old clause.now) d (instance_of (clause_at bank.old clause.now) (sigma_at bank.old sigma.now))) }
     ensures grows { Extends bank.old bank.new }
 {

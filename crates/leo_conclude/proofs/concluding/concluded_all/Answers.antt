@@ -1,7 +1,7 @@
 use Rattle.std.proofs.Common.{refl}
 use Rattle.leo_terms.proofs.CallerLemmas.{extends-itself, extends-trans}
 use Rattle.leo_clause.specs.Trees.{clause_at}
-use Rattle.leo_conclude.proofs.Concluded.{clause-grows, constraints-grow, none-concluded, sigma-there, solution-next}
+use Rattle.leo_conclude.proofs.Concluded.{clause-grows, constraints-grow, none-concluded, sigma-there, solution-next, solution-there}
 use Rattle.leo_conclude.proofs.concluding.concluded_all.Goals as goal
 
 pub loop-sigma-init : goal.loop-sigma-init
@@ -15,6 +15,9 @@ concluded-requires-clause-constraints c = constraints-grow c.loop-sigma.invarian
 
 pub concluded-requires-clause-sigma : goal.concluded-requires-clause-sigma
 concluded-requires-clause-sigma c = sigma-there c.loop-sigma.invariant.0 c.args.clause.now c.requires.clause c.args.sigmas.now c.requires.sigmas c.loop-sigma.sigma-index c.sigma-item.result c.loop-sigma-test.true c.sigma-item.is
+
+pub concluded-requires-clause-from : goal.concluded-requires-clause-from
+concluded-requires-clause-from c = solution-there c.loop-sigma.invariant.0 c.args.clause.now c.requires.clause c.args.sigmas.now c.requires.sigmas c.loop-sigma.sigma-index c.sigma-item.result c.loop-sigma-test.true c.sigma-item.is c.requires.from
 
 pub returns-in_err-next-clause-grows : goal.returns-in_err-next-clause-grows
 returns-in_err-next-clause-grows c = extends-trans c.loop-sigma.invariant.0 c.concluded.ensures.grows

@@ -1,6 +1,6 @@
 use Rattle.leo_terms.proofs.CallerLemmas.{extends-itself, extends-trans}
 use Rattle.leo_clause.specs.Trees.{clause_at}
-use Rattle.leo_conclude.proofs.Concluded.{clause-grows, constraints-grow, empty-list, no-constraints, sigmas-over, solved-conclusions, some-list, start-back}
+use Rattle.leo_conclude.proofs.Concluded.{clause-grows, constraints-grow, empty-list, found-from, no-constraints, sigmas-over, solved-conclusions, some-list, start-back}
 use Rattle.leo_conclude.proofs.concluding.conclusions.Goals as goal
 
 pub returns-then-is_empty-clause-conclusions : goal.returns-then-is_empty-clause-conclusions
@@ -17,6 +17,10 @@ concluded_all-requires-clause-constraints c = constraints-grow c.solve.ensures.g
 
 pub concluded_all-requires-clause-sigmas : goal.concluded_all-requires-clause-sigmas
 concluded_all-requires-clause-sigmas c = rw c.as_slice-2.ensures (sigmas-over c.solve.ensures.grows c.args.clause.now c.requires.clause c.in_ok-sigmas.sigmas (rw c.as_slice-vars.ensures at c.in_ok-sigmas.ensures.sigmas))
+
+pub concluded_all-requires-clause-from : goal.concluded_all-requires-clause-from
+concluded_all-requires-clause-from c =
+    rw c.as_slice-2.ensures (found-from c.solve.ensures.grows c.args.clause.now c.requires.clause c.solutions_are_from_pairs.ensures c.args.constraints.now c.args.depth c.in_ok-pairs.pairs _ c.in_ok-pairs.ensures.pairs (rw (c.as_slice-vars.ensures, c.as_slice.ensures) at c.in_ok-sigmas.ensures.found))
 
 pub returns-in_err-found-2-clause-grows : goal.returns-in_err-found-2-clause-grows
 returns-in_err-found-2-clause-grows c = extends-trans c.solve.ensures.grows c.concluded_all.ensures.grows

@@ -29,7 +29,7 @@ returns-in_err-derived-3-clause-grows c = extends-trans c.instance_lits.ensures.
 
 pub returns-clause-derived : goal.returns-clause-derived
 returns-clause-derived c =
-    instance-derived c.instance_lits.ensures.grows c.normal_lits.ensures.grows c.args.clause.now c.args.sigma.now c.requires.clause c.requires.sigma c.in_ok-lits.lits c.in_ok-normals.normals
+    instance-derived c.instance_lits.ensures.grows c.normal_lits.ensures.grows c.args.clause.now c.args.sigma.now c.requires.clause c.requires.sigma c.requires.from c.in_ok-lits.lits c.in_ok-normals.normals
     (rw (c.as_slice-terms.ensures, c.as_slice.ensures) at c.in_ok-lits.ensures.made) (rw c.as_slice-2.ensures at c.in_ok-normals.ensures.made)
     c.in_ok-derived.derived c.in_ok-derived-2.derived c.in_ok-derived-3.derived c.in_ok-vars.vars c.in_ok-from_slice.field-0 c.in_ok-normal_vars.normal_vars
     (c.in_ok-vars.ensures ∙ c.as_slice-3.ensures) (c.in_ok-normal_vars.ensures ∙ c.as_slice-4.ensures) (c.in_ok-from_slice.ensures ∙ c.as_slice-terms.ensures) c.in_ok-derived.ensures
