@@ -18,7 +18,7 @@ use Rattle.leo_clausify.specs.declared.moves.Move.{Move}
 use Rattle.leo_clausify.specs.declared.moves.Move.TheVariants as move
 use Rattle.leo_clausify.specs.declared.moves.Step.{Step}
 use Rattle.leo_clausify.specs.Branches.{IsBranch, IsExtended, Leads, Precedes}
-use Rattle.leo_clausify.specs.Moves.{Follows, IsChain, IsMoveOf, IsStepIn, AreStepsIn, move_rule, step_at}
+use Rattle.leo_clausify.specs.Moves.{Descends, IsDescent, IsMoveOf, IsStepIn, AreStepsIn, move_rule, step_at}
 use Rattle.leo_clausify.specs.Literals.{AreLiterals}
 use Rattle.leo_clausify.specs.Splitting.{AreNormal, normal_literal, turned}
 use Rattle.leo_clausify.proofs.Chains.{chain-later, chain-more}
@@ -75,7 +75,7 @@ reached-itself c later b h = record {
   leads = λ choices start before k. chain-later choices later before start (clause_at c b.clause) (map (step_at c) b.steps) k;
 }
 
-pub reached-step : {c d e : Contents} (g : Extends d e) (later : List Choice) (b r u : Branch) (tree next : ClauseTree) (k : Clause) (m : Move) → Reached c d later b r tree → u.clause ≡ k → u.steps ≡ r.steps ++ record { clause = k; rule = m } ∷ [] → IsClauseOf e k → IsMoveOf e m → clause_at e k ≡ next → IsTyped next → Follows later tree (record { clause = next; rule = move_rule e m }) → Reached c e later b u next
+pub reached-step : {c d e : Contents} (g : Extends d e) (later : List Choice) (b r u : Branch) (tree next : ClauseTree) (k : Clause) (m : Move) → Reached c d later b r tree → u.clause ≡ k → u.steps ≡ r.steps ++ record { clause = k; rule = m } ∷ [] → IsClauseOf e k → IsMoveOf e m → clause_at e k ≡ next → IsTyped next → Descends later tree (record { clause = next; rule = move_rule e m }) → Reached c e later b u next
 reached-step {c} {d} {e} g later b r u tree next k m h p q of_bank terms reads typed follows =
     let s : Step = record { clause = k; rule = m } in
     record {
@@ -84,7 +84,7 @@ reached-step {c} {d} {e} g later b r u tree next k m h p q of_bank terms reads t
       typed = typed;
       steps = rw q (steps-end e r.steps s (steps-grow g r.steps h.steps) (record { clause_of = of_bank; terms_of = terms }));
       leads = λ choices start before l.
-          let chain : IsChain later start (map (step_at d) r.steps) tree = rw h.reads at (h.leads choices start before l) in
+          let chain : IsDescent later start (map (step_at d) r.steps) tree = rw h.reads at (h.leads choices start before l) in
           let more = chain-more later start tree (map (step_at d) r.steps) (record { clause = next; rule = move_rule e m }) chain follows in
           let steps : map (step_at e) (r.steps ++ s ∷ []) ≡ map (step_at d) r.steps ++ record { clause = next; rule = move_rule e m } ∷ [] = map-append (step_at e) r.steps (s ∷ []) ∙ rw (steps-kept g r.steps h.steps, reads) refl in
           rw (q, p, steps, reads) more;
@@ -172,7 +172,7 @@ pub taken-extended : {c d : Contents} → Extends c d → (b m r : Branch) (at :
     k.vars ≡ b.clause.vars ++ fresh → k.lits ≡ take at b.clause.lits ++ (new ++ drop (at + 1) b.clause.lits) →
     n.vars ≡ b.clause.vars ++ fresh → n.lits ≡ take at b.clause.lits ++ (normals ++ drop (at + 1) b.clause.lits) →
     m.clause ≡ k → m.steps ≡ b.steps ++ record { clause = k; rule = first } ∷ [] → r.clause ≡ n → r.steps ≡ m.steps ++ record { clause = n; rule = move.Convert } ∷ [] → IsMoveOf c first →
-    (later : List Choice) → Follows later (clause_at c b.clause) (record { clause = with_new (clause_at c b.clause) at (map (type_at c) fresh) (map (literal_at c) new); rule = move_rule c first }) →
+    (later : List Choice) → Descends later (clause_at c b.clause) (record { clause = with_new (clause_at c b.clause) at (map (type_at c) fresh) (map (literal_at c) new); rule = move_rule c first }) →
     IsExtended c d later b r (with_new (clause_at c b.clause) at (map (type_at c) fresh) (map normal_literal (map (literal_at c) new)))
 taken-extended {c} {d} e b m r at fresh new normals k n first h types literals typed normal kvars klits nvars nlits mp mq rp rq terms later follows =
     let s = old_bank e in

@@ -8,21 +8,21 @@ use Rattle.leo_kernel.specs.Steps.{Line, clause_of, clause_in}
 use Rattle.leo_kernel.specs.Symbols.{abbreviation_of, abbreviation_at}
 use Rattle.leo_clausify.specs.Branches.{Precedes}
 use Rattle.leo_clausify.specs.Leaves.{last_clause}
-use Rattle.leo_clausify.specs.Moves.{TreeStep, HaveChoices, Follows, IsChain, lines_after}
+use Rattle.leo_clausify.specs.Moves.{TreeStep, HaveChoices, Descends, IsChain, IsDescent, lines_after}
 use Rattle.leo_clausify.specs.Origins.{Origin, IsClauseFrom, AreChoicesFrom, AreLinesFrom}
 
-pub follows-later : (choices later : List Choice) → Precedes choices later → (parent : ClauseTree) (s : TreeStep) → Follows choices parent s → Follows later parent s
+pub follows-later : (choices later : List Choice) → Precedes choices later → (parent : ClauseTree) (s : TreeStep) → Descends choices parent s → Descends later parent s
 follows-later choices later before parent s f = record {
-  accepted = λ lines p within is h. f.accepted lines p within is (record { within = λ n k e. h.within n k (before n k e); abbreviated = λ n k e. h.abbreviated n k (before n k e) });
+  follows = record { accepted = λ lines p within is h. f.follows.accepted lines p within is (record { within = λ n k e. h.within n k (before n k e); abbreviated = λ n k e. h.abbreviated n k (before n k e) }) };
   origin = λ o z h k p. f.origin o z h (λ n j e. k n j (before n j e)) p;
 }
 
-pub chain-later : (choices later : List Choice) → Precedes choices later → (start end : ClauseTree) (ss : List TreeStep) → IsChain choices start ss end → IsChain later start ss end
+pub chain-later : (choices later : List Choice) → Precedes choices later → (start end : ClauseTree) (ss : List TreeStep) → IsDescent choices start ss end → IsDescent later start ss end
 chain-later choices later before start end [] h = h
 chain-later choices later before start end (s ∷ ss) h = (follows-later choices later before start s h.0, chain-later choices later before s.clause end ss h.1)
 
 -- a step more
-pub chain-more : (choices : List Choice) (start middle : ClauseTree) (ss : List TreeStep) (s : TreeStep) → IsChain choices start ss middle → Follows choices middle s → IsChain choices start (ss ++ s ∷ []) s.clause
+pub chain-more : (choices : List Choice) (start middle : ClauseTree) (ss : List TreeStep) (s : TreeStep) → IsDescent choices start ss middle → Descends choices middle s → IsDescent choices start (ss ++ s ∷ []) s.clause
 chain-more choices start middle [] s h f = (rw h f, refl)
 chain-more choices start middle (t ∷ ss) s h f = (h.0, chain-more choices t.clause middle ss s h.1 f)
 
@@ -58,11 +58,16 @@ chain-accepted choices start end (s ∷ ss) first p long is h chain (suc n) step
     let r = chain-accepted choices s.clause end ss (first ++ l ∷ []) (p + 1) (omega arith) there (choices-more choices first l h) chain.1 n step e in
     rw (append_assoc first (l ∷ []) (take n (lines_after (p + 1) ss))) at r
 
-pub chain-last : (choices : List Choice) (start end : ClauseTree) (ss : List TreeStep) (p : ℕ) → IsChain choices start ss end → last_clause start (lines_after p ss) ≡ end
+-- a chain without what it tells of base types and symbols
+pub descent-chain : (choices : List Choice) (start end : ClauseTree) (ss : List TreeStep) → IsDescent choices start ss end → IsChain choices start ss end
+descent-chain choices start end [] h = h
+descent-chain choices start end (s ∷ ss) h = (h.0.follows, descent-chain choices s.clause end ss h.1)
+
+pub chain-last : (choices : List Choice) (start end : ClauseTree) (ss : List TreeStep) (p : ℕ) → IsDescent choices start ss end → last_clause start (lines_after p ss) ≡ end
 chain-last choices start end [] p h = h
 chain-last choices start end (s ∷ ss) p h = chain-last choices s.clause end ss (p + 1) h.1
 
 -- their base types and symbols are those of the start and of the choice symbols
-pub chain-from : (choices : List Choice) (start end : ClauseTree) (ss : List TreeStep) (p : ℕ) → IsChain choices start ss end → (o : Origin) → o.has_base 0 ≡ true → IsClauseFrom o start → AreChoicesFrom o choices → AreLinesFrom o (lines_after p ss)
+pub chain-from : (choices : List Choice) (start end : ClauseTree) (ss : List TreeStep) (p : ℕ) → IsDescent choices start ss end → (o : Origin) → o.has_base 0 ≡ true → IsClauseFrom o start → AreChoicesFrom o choices → AreLinesFrom o (lines_after p ss)
 chain-from choices start end [] p chain o z h k = tt
 chain-from choices start end (s ∷ ss) p chain o z h k = let l = chain.0.origin o z h k p in (l, chain-from choices s.clause end ss (p + 1) chain.1 o z l.0 k)

@@ -22,7 +22,7 @@ use Rattle.leo_kernel.specs.Symbols.{StandsFor, LogicHasSymbol, abbreviation_of}
 use Rattle.leo_kernel.proofs.ChosenClauses.{claims-are, some-claim, placed}
 use Rattle.leo_kernel.proofs.ChosenShowing.{speaks-once, same-arguments}
 use Rattle.leo_clausify.specs.Choosing.{function_of, variables_of, chosen_form, closed_form, chosen_arguments}
-use Rattle.leo_clausify.specs.Moves.{Follows}
+use Rattle.leo_clausify.specs.Moves.{Descends}
 use Rattle.leo_clausify.specs.Ways.{kind_chosen}
 use Rattle.leo_clausify.proofs.Applying.{IsGood, function-type, function-applied, function-good, applied-typed, terms-variables, applied-over}
 use Rattle.leo_clausify.proofs.Following.{there, literal-there, literal-within, value-typed}
@@ -152,15 +152,17 @@ module _ (parent : ClauseTree) (i : ℕ) (c : SimpleType) (p : Tree) (v : Bool) 
   concludes lines n true f a h = there (abbreviation_of lines n) (equal (symbol_of k) k.term) (λ s. IsClaimed parent i (Claims kind.SomeT l) s concluded) a (is-claimed (Claims kind.SomeT l) h)
   concludes lines n false f a h = there (abbreviation_of lines n) (equal (symbol_of k) k.term) (λ s. IsClaimed parent i (Claims kind.AllF l) s concluded) a (is-claimed (Claims kind.AllF l) h)
 
-  pub claim-follows : (choices : List Choice) (n : ℕ) → slice_get choices n ≡ Some k → Claims (kind_chosen v) l (value c p v) → Follows choices parent (record { clause = concluded; rule = λ q. take_apart q i (kind_chosen v) (Some n) })
+  pub claim-follows : (choices : List Choice) (n : ℕ) → slice_get choices n ≡ Some k → Claims (kind_chosen v) l (value c p v) → Descends choices parent (record { clause = concluded; rule = λ q. take_apart q i (kind_chosen v) (Some n) })
   claim-follows choices n at h = record {
-    accepted = λ lines q within same given. record {
-      parents = (within, given.within n k at);
-      literals = literal-within lines q i parent l same e;
-      place = tt;
-      types = record { clause_typed = concluded-typed; rule_typed = tt };
-      symbols = there (literal_of lines q i) l (λ j. LogicHasSymbol lines concluded i (Some n) j (kind_chosen v)) (literal-there lines q i parent l same e) (has-symbol lines n v refl (given.abbreviated n k at) h);
-      shape = there (literal_of lines q i) l (λ j. LogicConcludes lines (clause_of lines q) i (Some n) j (kind_chosen v) concluded) (literal-there lines q i parent l same e) (rw same (concludes lines n v refl (given.abbreviated n k at) h));
+    follows = record {
+      accepted = λ lines q within same given. record {
+        parents = (within, given.within n k at);
+        literals = literal-within lines q i parent l same e;
+        place = tt;
+        types = record { clause_typed = concluded-typed; rule_typed = tt };
+        symbols = there (literal_of lines q i) l (λ j. LogicHasSymbol lines concluded i (Some n) j (kind_chosen v)) (literal-there lines q i parent l same e) (has-symbol lines n v refl (given.abbreviated n k at) h);
+        shape = there (literal_of lines q i) l (λ j. LogicConcludes lines (clause_of lines q) i (Some n) j (kind_chosen v) concluded) (literal-there lines q i parent l same e) (rw same (concludes lines n v refl (given.abbreviated n k at) h));
+      };
     };
     origin = λ o z g j q.
         let side = literal-at o z parent.literals i l g.1 e in

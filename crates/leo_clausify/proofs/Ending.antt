@@ -26,7 +26,7 @@ use Rattle.leo_clausify.specs.Origins.{AreLinesFrom}
 use Rattle.leo_clausify.specs.Moves.{IsMoveOf, IsStepIn, AreStepsIn, HaveChoices, lines_after, move_rule, records_after, rule_for, step_at}
 use Rattle.leo_clausify.specs.Choosing.{AreInOrder}
 use Rattle.leo_clausify.specs.Splitting.{AreNormal, Splits}
-use Rattle.leo_clausify.proofs.Chains.{chain-accepted, chain-from, chain-last}
+use Rattle.leo_clausify.proofs.Chains.{chain-accepted, chain-from, chain-last, descent-chain}
 use Rattle.leo_clausify.proofs.Giving.{length-map}
 use Rattle.leo_clausify.proofs.Remaining.{remains-first}
 
@@ -101,7 +101,7 @@ leaf-good c choices start p b e h l some = record {
   accepted = λ rule.
       let long = first-length choices start rule in
       let is : clause_of (first_lines choices start rule) p ≡ start = rw e (first-clause choices start rule) in
-      let a = chain-accepted choices start (clause_at c b.clause) (map (step_at c) b.steps) (first_lines choices start rule) p (omega arith) is (have-choices choices start rule) l in
+      let a = chain-accepted choices start (clause_at c b.clause) (map (step_at c) b.steps) (first_lines choices start rule) p (omega arith) is (have-choices choices start rule) (descent-chain choices start (clause_at c b.clause) (map (step_at c) b.steps) l) in
       subst (AreAcceptedAfter (first_lines choices start rule)) (sym (lines-are c p b.steps)) a;
   some = (let n = records-length p b.steps in omega arith);
   ends = ap (last_clause start) (lines-are c p b.steps) ∙ chain-last choices start (clause_at c b.clause) (map (step_at c) b.steps) p l;

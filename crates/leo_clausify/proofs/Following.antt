@@ -14,7 +14,7 @@ use Rattle.leo_kernel.specs.Rows.{TakesApart, not_v, or_t, or_f1, or_f2, and_t1,
 use Rattle.leo_kernel.specs.Shapes.{truth_tree, valued}
 use Rattle.leo_kernel.specs.Steps.{Line, arrange, drop_literal, take_apart, convert, clause_of, literal_of}
 use Rattle.leo_kernel.specs.Symbols.{LogicHasSymbol}
-use Rattle.leo_clausify.specs.Moves.{Follows}
+use Rattle.leo_clausify.specs.Moves.{Descends}
 use Rattle.leo_clausify.specs.Splitting.{normal_literal, turned}
 use Rattle.leo_clausify.proofs.Origins.{placed-from, turned-from, literal-at, row-from, converted-from}
 use Rattle.leo_clausify.proofs.Placing.{over-more, literal-more, typed-placed, typed-at, no-fresh, same_literal-turned, among-placed}
@@ -33,32 +33,36 @@ literal-within lines p i parent l e h = slice_get_within (clause_of lines p).lit
 pub turned-typed : (variables : List SimpleType) (l : Literal) → IsTypedLiteral variables l → IsTypedLiteral variables (turned l)
 turned-typed variables l h = record { left_over = h.right_over; right_over = h.left_over; same_type = sym h.same_type }
 
-pub turned-follows : (choices : List Choice) (parent : ClauseTree) (i : ℕ) (l : Literal) → slice_get parent.literals i ≡ Some l → IsTyped parent → Follows choices parent (record { clause = with_new parent i [] (turned l ∷ []); rule = arrange })
+pub turned-follows : (choices : List Choice) (parent : ClauseTree) (i : ℕ) (l : Literal) → slice_get parent.literals i ≡ Some l → IsTyped parent → Descends choices parent (record { clause = with_new parent i [] (turned l ∷ []); rule = arrange })
 turned-follows choices parent i l e typed = record {
-  accepted = λ lines p within is h. record {
-    parents = within;
-    literals = tt;
-    place = tt;
-    types = record {
-      clause_typed = typed-placed parent i [] (turned l ∷ []) typed (no-fresh parent.variables (turned l ∷ []) (turned-typed parent.variables l (typed-at parent.variables parent.literals i l typed e), tt));
-      rule_typed = tt;
+  follows = record {
+    accepted = λ lines p within is h. record {
+      parents = within;
+      literals = tt;
+      place = tt;
+      types = record {
+        clause_typed = typed-placed parent i [] (turned l ∷ []) typed (no-fresh parent.variables (turned l ∷ []) (turned-typed parent.variables l (typed-at parent.variables parent.literals i l typed e), tt));
+        rule_typed = tt;
+      };
+      symbols = tt;
+      shape = rw is (append-nil parent.variables, among-placed parent.literals i l (turned l) e (same_literal-turned l));
     };
-    symbols = tt;
-    shape = rw is (append-nil parent.variables, among-placed parent.literals i l (turned l) e (same_literal-turned l));
   };
   origin = λ o z h k p. (placed-from o z parent i [] (turned l ∷ []) h tt (turned-from o z l (literal-at o z parent.literals i l h.1 e)), tt);
 }
 
 -- a literal that is left out
-pub omitted-follows : (choices : List Choice) (parent : ClauseTree) (i : ℕ) (l : Literal) → slice_get parent.literals i ≡ Some l → IsTyped parent → NeverHolds l → Follows choices parent (record { clause = with_new parent i [] []; rule = λ p. drop_literal p i })
+pub omitted-follows : (choices : List Choice) (parent : ClauseTree) (i : ℕ) (l : Literal) → slice_get parent.literals i ≡ Some l → IsTyped parent → NeverHolds l → Descends choices parent (record { clause = with_new parent i [] []; rule = λ p. drop_literal p i })
 omitted-follows choices parent i l e typed never = record {
-  accepted = λ lines p within is h. record {
-    parents = within;
-    literals = literal-within lines p i parent l is e;
-    place = tt;
-    types = record { clause_typed = typed-placed parent i [] [] typed tt; rule_typed = tt };
-    symbols = tt;
-    shape = there (literal_of lines p i) l (λ k. NeverHolds k × (with_new parent i [] [] ≡ with_new (clause_of lines p) i [] [])) (literal-there lines p i parent l is e) (never, rw is refl);
+  follows = record {
+    accepted = λ lines p within is h. record {
+      parents = within;
+      literals = literal-within lines p i parent l is e;
+      place = tt;
+      types = record { clause_typed = typed-placed parent i [] [] typed tt; rule_typed = tt };
+      symbols = tt;
+      shape = there (literal_of lines p i) l (λ k. NeverHolds k × (with_new parent i [] [] ≡ with_new (clause_of lines p) i [] [])) (literal-there lines p i parent l is e) (never, rw is refl);
+    };
   };
   origin = λ o z h k p. (placed-from o z parent i [] [] h tt tt, tt);
 }
@@ -130,19 +134,21 @@ row-concludes next kind l fresh new (flip a v) lines parent clause i k h = h
 row-concludes next kind l fresh new (all_t c p) lines parent clause i k h = h
 row-concludes next kind l fresh new (some_f c p) lines parent clause i k h = h
 
-pub row-follows : (choices : List Choice) (parent : ClauseTree) (i : ℕ) (kind : LogicKind) (l : Literal) (fresh : List SimpleType) (new : List Literal) → slice_get parent.literals i ≡ Some l → IsTyped parent → IsWellTyped l.left → TakesApart (length parent.variables) kind l fresh new → Follows choices parent (record { clause = with_new parent i fresh new; rule = λ p. take_apart p i kind None })
+pub row-follows : (choices : List Choice) (parent : ClauseTree) (i : ℕ) (kind : LogicKind) (l : Literal) (fresh : List SimpleType) (new : List Literal) → slice_get parent.literals i ≡ Some l → IsTyped parent → IsWellTyped l.left → TakesApart (length parent.variables) kind l fresh new → Descends choices parent (record { clause = with_new parent i fresh new; rule = λ p. take_apart p i kind None })
 row-follows choices parent i kind l fresh new e typed w row = record {
-  accepted = λ lines p within is h. record {
-    parents = (within, tt);
-    literals = literal-within lines p i parent l is e;
-    place = tt;
-    types = record {
-      clause_typed = typed-placed parent i fresh new typed (row-typed parent.variables kind l fresh new row (typed-at parent.variables parent.literals i l typed e) w);
-      rule_typed = tt;
+  follows = record {
+    accepted = λ lines p within is h. record {
+      parents = (within, tt);
+      literals = literal-within lines p i parent l is e;
+      place = tt;
+      types = record {
+        clause_typed = typed-placed parent i fresh new typed (row-typed parent.variables kind l fresh new row (typed-at parent.variables parent.literals i l typed e) w);
+        rule_typed = tt;
+      };
+      symbols = there (literal_of lines p i) l (λ k. LogicHasSymbol lines (with_new parent i fresh new) i None k kind) (literal-there lines p i parent l is e) (row-missing (length parent.variables) kind l fresh new row lines (with_new parent i fresh new) i l);
+      shape = there (literal_of lines p i) l (λ k. LogicConcludes lines (clause_of lines p) i None k kind (with_new parent i fresh new)) (literal-there lines p i parent l is e)
+          (row-concludes (length parent.variables) kind l fresh new row lines (clause_of lines p) (with_new parent i fresh new) i l (rw is (record { fresh = fresh; new = new; row = row; concluded = refl })));
     };
-    symbols = there (literal_of lines p i) l (λ k. LogicHasSymbol lines (with_new parent i fresh new) i None k kind) (literal-there lines p i parent l is e) (row-missing (length parent.variables) kind l fresh new row lines (with_new parent i fresh new) i l);
-    shape = there (literal_of lines p i) l (λ k. LogicConcludes lines (clause_of lines p) i None k kind (with_new parent i fresh new)) (literal-there lines p i parent l is e)
-        (row-concludes (length parent.variables) kind l fresh new row lines (clause_of lines p) (with_new parent i fresh new) i l (rw is (record { fresh = fresh; new = new; row = row; concluded = refl })));
   };
   origin = λ o z h k p. (let r = row-from o z (length parent.variables) kind l fresh new row (literal-at o z parent.literals i l h.1 e) in (placed-from o z parent i fresh new h r.0 r.1, tt));
 }
@@ -177,15 +183,17 @@ converted-after : (front : List Literal) (ls ks : List Literal) → AreConverted
 converted-after [] ls ks h = h
 converted-after (l ∷ front) ls ks h = (record { polarity = refl; left_form = refl; right_form = refl }, converted-after front ls ks h)
 
-pub converted-follows : (choices : List Choice) (c : ClauseTree) (i : ℕ) (fresh : List SimpleType) (new : List Literal) → IsTyped c → AreTyped (c.variables ++ fresh) new → AreWell new → Follows choices (with_new c i fresh new) (record { clause = with_new c i fresh (map normal_literal new); rule = convert })
+pub converted-follows : (choices : List Choice) (c : ClauseTree) (i : ℕ) (fresh : List SimpleType) (new : List Literal) → IsTyped c → AreTyped (c.variables ++ fresh) new → AreWell new → Descends choices (with_new c i fresh new) (record { clause = with_new c i fresh (map normal_literal new); rule = convert })
 converted-follows choices c i fresh new typed h w = record {
-  accepted = λ lines p within is k. record {
-    parents = within;
-    literals = tt;
-    place = tt;
-    types = record { clause_typed = typed-placed c i fresh (map normal_literal new) typed (normals-typed (c.variables ++ fresh) new w h); rule_typed = tt };
-    symbols = tt;
-    shape = rw is (refl, converted-after (take i c.literals) (new ++ drop (suc i) c.literals) (map normal_literal new ++ drop (suc i) c.literals) (converted-normals new (drop (suc i) c.literals) w));
+  follows = record {
+    accepted = λ lines p within is k. record {
+      parents = within;
+      literals = tt;
+      place = tt;
+      types = record { clause_typed = typed-placed c i fresh (map normal_literal new) typed (normals-typed (c.variables ++ fresh) new w h); rule_typed = tt };
+      symbols = tt;
+      shape = rw is (refl, converted-after (take i c.literals) (new ++ drop (suc i) c.literals) (map normal_literal new ++ drop (suc i) c.literals) (converted-normals new (drop (suc i) c.literals) w));
+    };
   };
   origin = λ o z h k p. (converted-from o z c i fresh new h, tt);
 }

@@ -26,7 +26,7 @@ use Rattle.leo_kernel.specs.Steps.{arrange, inst}
 use Rattle.leo_kernel.proofs.ChosenRenaming.{renamed-normal}
 use Rattle.leo_kernel.proofs.Lists.{get-index}
 use Rattle.leo_clausify.specs.Giving.{AreGivenBy, placed_tree, some_tree}
-use Rattle.leo_clausify.specs.Moves.{Follows}
+use Rattle.leo_clausify.specs.Moves.{Descends}
 use Rattle.leo_clausify.specs.Splitting.{AreNormal}
 use Rattle.leo_clausify.proofs.Branching.{get-map}
 use Rattle.leo_clausify.proofs.Origins.{distinct-from, numbered-from, given-from, from-placed_tree}
@@ -191,36 +191,40 @@ firsts-among : (xs seen : List Literal) → AreAmong xs (firsts same_literal see
 firsts-among [] seen = tt
 firsts-among (x ∷ xs) seen = firsts-among_by (list_any (same_literal x) seen) x xs seen refl (firsts-among xs seen) (firsts-among xs (seen ++ x ∷ []))
 
-pub distinct-follows : (choices : List Choice) (c : ClauseTree) → IsTyped c → Follows choices c (record { clause = record { variables = c.variables; literals = distinct c.literals }; rule = arrange })
+pub distinct-follows : (choices : List Choice) (c : ClauseTree) → IsTyped c → Descends choices c (record { clause = record { variables = c.variables; literals = distinct c.literals }; rule = arrange })
 distinct-follows choices c typed = record {
-  accepted = λ lines p within is h. record {
-    parents = within;
-    literals = tt;
-    place = tt;
-    types = record { clause_typed = typed-firsts same_literal c.variables c.literals [] tt typed; rule_typed = tt };
-    symbols = tt;
-    shape = rw is (refl, firsts-among c.literals []);
+  follows = record {
+    accepted = λ lines p within is h. record {
+      parents = within;
+      literals = tt;
+      place = tt;
+      types = record { clause_typed = typed-firsts same_literal c.variables c.literals [] tt typed; rule_typed = tt };
+      symbols = tt;
+      shape = rw is (refl, firsts-among c.literals []);
+    };
   };
   origin = λ o z h k p. ((h.0, distinct-from o z c.literals h.1), tt);
 }
 
 -- the variables numbered as they come
 pub numbered-follows : (choices : List Choice) (variables : List SimpleType) (ls : List Literal) (given : List Tree) → AreTyped variables ls → length given ≡ length variables → Gives (placed_tree (firsts nat_eq [] (occurring_in ls))) variables given →
-    Follows choices (record { variables = variables; literals = ls }) (record { clause = numbered variables ls; rule = λ p. inst p given })
+    Descends choices (record { variables = variables; literals = ls }) (record { clause = numbered variables ls; rule = λ p. inst p given })
 numbered-follows choices variables ls given typed l gives = record {
-  accepted = λ lines p within is h. record {
-    parents = within;
-    literals = tt;
-    place = tt;
-    types = record {
-      clause_typed = typed-numbered variables ls typed;
-      rule_typed = rw is (
-        terms-for (map (variable_type variables) (firsts nat_eq [] (occurring_in ls))) variables given (placed_tree (firsts nat_eq [] (occurring_in ls))) l gives (λ n a e. (placed-type (firsts nat_eq [] (occurring_in ls)) n a, placed-over variables (firsts nat_eq [] (occurring_in ls)) n a e)),
-        are-given variables given (placed_tree (firsts nat_eq [] (occurring_in ls))) gives (placed-type (firsts nat_eq [] (occurring_in ls))) ls typed,
-      );
+  follows = record {
+    accepted = λ lines p within is h. record {
+      parents = within;
+      literals = tt;
+      place = tt;
+      types = record {
+        clause_typed = typed-numbered variables ls typed;
+        rule_typed = rw is (
+          terms-for (map (variable_type variables) (firsts nat_eq [] (occurring_in ls))) variables given (placed_tree (firsts nat_eq [] (occurring_in ls))) l gives (λ n a e. (placed-type (firsts nat_eq [] (occurring_in ls)) n a, placed-over variables (firsts nat_eq [] (occurring_in ls)) n a e)),
+          are-given variables given (placed_tree (firsts nat_eq [] (occurring_in ls))) gives (placed-type (firsts nat_eq [] (occurring_in ls))) ls typed,
+        );
+      };
+      symbols = tt;
+      shape = rw is (literals-placed variables (firsts nat_eq [] (occurring_in ls)) given gives ls typed (AreSeen-met (occurring_in ls) []));
     };
-    symbols = tt;
-    shape = rw is (literals-placed variables (firsts nat_eq [] (occurring_in ls)) given gives ls typed (AreSeen-met (occurring_in ls) []));
   };
   origin = λ o z h k p. (numbered-from o z variables ls h.0 h.1, given-from o z (placed_tree (firsts nat_eq [] (occurring_in ls))) (from-placed_tree o z (firsts nat_eq [] (occurring_in ls))) variables given l gives h.0);
 }

@@ -28,7 +28,7 @@ use Rattle.leo_clausify.specs.Branches.{IsBranch, IsExtended, Leads, Precedes}
 use Rattle.leo_clausify.specs.Choosing.{AreInOrder, Chooses, earliest, added, chosen_arguments}
 use Rattle.leo_clausify.specs.Forms.{Form, turn, omit, apart}
 use Rattle.leo_clausify.specs.Literals.{AreLiterals}
-use Rattle.leo_clausify.specs.Moves.{Follows, IsChain, step_at}
+use Rattle.leo_clausify.specs.Moves.{Descends, IsDescent, step_at}
 use Rattle.leo_clausify.specs.Picking.{IsPicked}
 use Rattle.leo_clausify.specs.Reducing.{ArePieces, HasRow, IsReduced, IsTaken, IsWayOver, PiecesBy}
 use Rattle.leo_clausify.specs.Splitting.{Becomes, turns, omits, takes_apart, chooses, AreNormal, normal_literal}
@@ -74,7 +74,7 @@ module _ (parent : ClauseTree) (i : ℕ) (l : Literal) (e : slice_get parent.lit
   -- what a literal is taken apart to, in a step that is accepted
   pub record IsStep (known : ℕ) (choices later : List Choice) (f : Form) (kind : LogicKind) (abbr : Option ℕ) (types : List SimpleType) (new : List Literal) : Type 0 where
     pub becomes : Becomes known choices parent i l f later (with_new parent i types (map normal_literal new))
-    pub follows : Follows later parent (record { clause = with_new parent i types new; rule = λ q. take_apart q i kind abbr })
+    pub follows : Descends later parent (record { clause = with_new parent i types new; rule = λ q. take_apart q i kind abbr })
     pub typed_new : AreTyped (parent.variables ++ types) new
     pub precedes : Precedes choices later
 
@@ -122,7 +122,7 @@ pub leads-kept : {c d : Contents} → Extends c d → (b : Branch) → IsBranch 
 leads-kept {c} {d} e b h choices start l =
     let k : clause_at d b.clause ≡ clause_at c b.clause = clause-kept e b.clause h.typed.of_bank in
     let m : map (step_at d) b.steps ≡ map (step_at c) b.steps = steps-kept e b.steps h.steps in
-    subst (λ (t : ClauseTree). IsChain choices start (map (step_at d) b.steps) t) (sym k) (subst (λ (ss : List _). IsChain choices start ss (clause_at c b.clause)) (sym m) l)
+    subst (λ (t : ClauseTree). IsDescent choices start (map (step_at d) b.steps) t) (sym k) (subst (λ (ss : List _). IsDescent choices start ss (clause_at c b.clause)) (sym m) l)
 
 pub order-grow : {c d : Contents} → Extends c d → (items : List (ℕ × ℕ)) → AreInOrder c items → AreInOrder d items
 order-grow e items h = record { of_bank = items-grow e items h.of_bank; choices = rw (items-kept e items h.of_bank) h.choices }
@@ -161,12 +161,12 @@ module _ {a b : Contents} (e : Extends a b) (branch : Branch) (before after : Li
   pub taken-typed : AreTyped (map (type_at b) branch.clause.vars ++ map (type_at b) p.fresh) (map (literal_at b) p.new)
   taken-typed = rw (types-kept e branch.clause.vars h.typed.of_bank.types_of) (taken-step 0 (omega arith)).typed_new
 
-  pub taken-reduced : {d : Contents} → Extends b d → (r : Branch) → ((later : List Choice) → Follows later (clause_at b branch.clause) (record { clause = with_new (clause_at b branch.clause) at (map (type_at b) p.fresh) (map (literal_at b) p.new); rule = λ q. take_apart q at p.kind p.abbr }) → IsExtended b d later branch r (with_new (clause_at b branch.clause) at (map (type_at b) p.fresh) (map normal_literal (map (literal_at b) p.new)))) → IsReduced a d before after branch r at (literal_at a l) (form_of way)
+  pub taken-reduced : {d : Contents} → Extends b d → (r : Branch) → ((later : List Choice) → Descends later (clause_at b branch.clause) (record { clause = with_new (clause_at b branch.clause) at (map (type_at b) p.fresh) (map (literal_at b) p.new); rule = λ q. take_apart q at p.kind p.abbr }) → IsExtended b d later branch r (with_new (clause_at b branch.clause) at (map (type_at b) p.fresh) (map normal_literal (map (literal_at b) p.new)))) → IsReduced a d before after branch r at (literal_at a l) (form_of way)
   taken-reduced {d} g r x =
       let k : clause_at b branch.clause ≡ clause_at a branch.clause = clause-kept e branch.clause h.typed.of_bank in
       let now : map (choice_at d) after ≡ map (choice_at b) after = items-kept g after pieces.in_order.of_bank in
       let zero = taken-step 0 (omega arith) in
-      let follows = subst (λ (t : ClauseTree). Follows (map (choice_at b) after) t (record { clause = with_new t at (map (type_at b) p.fresh) (map (literal_at b) p.new); rule = λ q. take_apart q at p.kind p.abbr })) (sym k) zero.follows in
+      let follows = subst (λ (t : ClauseTree). Descends (map (choice_at b) after) t (record { clause = with_new t at (map (type_at b) p.fresh) (map (literal_at b) p.new); rule = λ q. take_apart q at p.kind p.abbr })) (sym k) zero.follows in
       let y = x (map (choice_at b) after) follows in
       let reads : clause_at d r.clause ≡ with_new (clause_at a branch.clause) at (map (type_at b) p.fresh) (map normal_literal (map (literal_at b) p.new)) = y.reads ∙ ap (λ (t : ClauseTree). with_new t at (map (type_at b) p.fresh) (map normal_literal (map (literal_at b) p.new))) k in
       let z = extended-from e (map (choice_at b) after) branch r _ h (extended-itself b d (map (choice_at b) after) branch r _ y) in

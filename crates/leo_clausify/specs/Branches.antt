@@ -5,7 +5,7 @@ use Rattle.leo_clause.specs.Choices.{Choice}
 use Rattle.leo_clause.specs.Trees.{ClauseTree, clause_at}
 use Rattle.leo_clause.specs.Typed.{IsTypedIn}
 use Rattle.leo_clausify.specs.declared.branch.Branch.{Branch}
-use Rattle.leo_clausify.specs.Moves.{AreStepsIn, IsChain, step_at}
+use Rattle.leo_clausify.specs.Moves.{AreStepsIn, IsDescent, step_at}
 use Rattle.leo_clausify.specs.Splitting.{AreNormal}
 
 -- the clause is typed and in normal form, and the numbers of the steps are numbers of the bank
@@ -16,7 +16,7 @@ pub record IsBranch (c : Contents) (b : Branch) : Type 0 where
 
 -- the steps lead from `start` to the clause
 abbrev pub Leads : Contents → List Choice → ClauseTree → Branch → Type 0
-Leads c choices start b = IsChain choices start (map (step_at c) b.steps) (clause_at c b.clause)
+Leads c choices start b = IsDescent choices start (map (step_at c) b.steps) (clause_at c b.clause)
 
 -- every place of the first list has its item in the second
 abbrev pub Precedes : List Choice → List Choice → Type 0

@@ -64,16 +64,24 @@ pub record HaveChoices (choices : List Choice) (lines : List Line) : Type 0 wher
   pub within : (n : ℕ) (k : Choice) → slice_get choices n ≡ Some k → n < length lines
   pub abbreviated : (n : ℕ) (k : Choice) → slice_get choices n ≡ Some k → abbreviation_of lines n ≡ Some (equal (symbol_of k) k.term)
 
--- from any line with the parent, among lines that abbreviate the symbols, the rule gives the clause; what is so of all base
--- types and symbols of the parent and of the choice symbols is so of those of the step
+-- from any line with the parent, among lines that abbreviate the symbols, the rule gives the clause
 pub record Follows (choices : List Choice) (parent : ClauseTree) (s : TreeStep) : Type 0 where
   pub accepted : (lines : List Line) (p : ℕ) → p < length lines → clause_of lines p ≡ parent → HaveChoices choices lines → Accepts [] lines (record { clause = s.clause; rule = s.rule p })
-  pub origin : (o : Origin) → o.has_base 0 ≡ true → IsClauseFrom o parent → AreChoicesFrom o choices → (p : ℕ) → IsLineFrom o (record { clause = s.clause; rule = s.rule p })
 
 -- each step follows from the one before it, the first from the clause `start`, and the last is `end`
 abbrev pub IsChain : List Choice → ClauseTree → List TreeStep → ClauseTree → Type 0
 IsChain choices start [] end = start ≡ end
 IsChain choices start (s ∷ ss) end = Follows choices start s × IsChain choices s.clause ss end
+
+-- besides, what is so of all base types and symbols of the parent and of the choice symbols is so of those of the step
+pub record Descends (choices : List Choice) (parent : ClauseTree) (s : TreeStep) : Type 0 where
+  pub follows : Follows choices parent s
+  pub origin : (o : Origin) → o.has_base 0 ≡ true → IsClauseFrom o parent → AreChoicesFrom o choices → (p : ℕ) → IsLineFrom o (record { clause = s.clause; rule = s.rule p })
+
+-- a chain of such steps
+abbrev pub IsDescent : List Choice → ClauseTree → List TreeStep → ClauseTree → Type 0
+IsDescent choices start [] end = start ≡ end
+IsDescent choices start (s ∷ ss) end = Descends choices start s × IsDescent choices s.clause ss end
 
 -- the lines of the steps, where the line before them has the number p
 abbrev pub lines_after : ℕ → List TreeStep → List Line

@@ -8,7 +8,7 @@ ghost use Rattle.leo_clause.specs.Typed.{AreLiteralsOf, AreTyped, AreTypesOf};
 ghost use Rattle.leo_kernel.specs.Conclusions.{NeverHolds, with_new};
 ghost use Rattle.leo_kernel.specs.Steps.{take_apart};
 ghost use Rattle.leo_clausify.specs.Branches.{IsBranch, IsExtended};
-ghost use Rattle.leo_clausify.specs.Moves.{Follows};
+ghost use Rattle.leo_clausify.specs.Moves.{Descends};
 ghost use Rattle.leo_clausify.specs.Splitting.{normal_literal, turned};
 
 use crate::literals::{normalized, placed};
@@ -104,7 +104,7 @@ impl Branch {
         requires fresh { AreTypesOf bank.old pieces.now.fresh }
         requires new { AreLiteralsOf bank.old pieces.now.new }
         requires typed { AreTyped (map (type_at bank.old) self.clause.vars ++ map (type_at bank.old) pieces.now.fresh) (map (literal_at bank.old) pieces.now.new) }
-        ensures extended { IfOk result (λ r. (later : List Choice) → Follows later (clause_at bank.old self.clause) (record { clause = with_new (clause_at bank.old self.clause) at (map (type_at bank.old) pieces.now.fresh) (map (literal_at bank.old) pieces.now.new); rule = λ p. take_apart p at pieces.now.kind pieces.now.abbr }) → IsExtended bank.old bank.new later self r (with_new (clause_at bank.old self.clause) at (map (type_at bank.old) pieces.now.fresh) (map normal_literal (map (literal_at bank.old) pieces.now.new)))) }
+        ensures extended { IfOk result (λ r. (later : List Choice) → Descends later (clause_at bank.old self.clause) (record { clause = with_new (clause_at bank.old self.clause) at (map (type_at bank.old) pieces.now.fresh) (map (literal_at bank.old) pieces.now.new); rule = λ p. take_apart p at pieces.now.kind pieces.now.abbr }) → IsExtended bank.old bank.new later self r (with_new (clause_at bank.old self.clause) at (map (type_at bank.old) pieces.now.fresh) (map normal_literal (map (literal_at bank.old) pieces.now.new)))) }
         ensures grows { Extends bank.old bank.new }
     {
         let fresh = pieces.fresh.as_slice();

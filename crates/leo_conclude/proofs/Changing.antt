@@ -53,7 +53,7 @@ module _ (c : Contents) (b : IsBank c) (d r : Derived) (k : Clause) (at : ℕ) (
         literals = literals-now front back l is count ∙ rw none refl;
         longer = longer-more d.records r.records _ records;
         derived = λ start h. derived-step c start d r k (record_of.Drop (length d.records) at) (λ p. drop_literal p at) h clause records t tt refl
-            (rw (reads, none) (omitted-follows [] (clause_at c d.clause) at l get typed.typed never).accepted)
+            (rw (reads, none) (omitted-follows [] (clause_at c d.clause) at l get typed.typed never).follows.accepted)
             (from-read start (clause_at c d.clause) (clause_at c d.clause) (clause_at c k) (with_new (clause_at c d.clause) at [] []) (drop_literal (length d.records) at) refl (reads ∙ ap (λ (ls : List Lit). with_new (clause_at c d.clause) at [] (map (literal_at c) ls)) none)
             (λ o b s p. (clause-with o b (clause_at c d.clause) at [] [] p tt tt, tt)));
       }

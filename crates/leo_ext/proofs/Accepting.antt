@@ -170,7 +170,7 @@ module _ (choices : List Choice) (p : ℕ) (c : ClauseTree) (typed : IsTyped c) 
 
     when-turned : Each Led (factor_turned p c i l j k)
     when-turned = each-if Led (not (is_formula k) && heads_meet [] l.left k.right) _ (λ f. (
-      two-steps choices p (suc p) c (record { clause = with_turned c j k; rule = λ q. Rattle.leo_kernel.specs.Steps.arrange q }) _ _ (omega arith) (turned-follows choices c j k there typed)
+      two-steps choices p (suc p) c (record { clause = with_turned c j k; rule = λ q. Rattle.leo_kernel.specs.Steps.arrange q }) _ _ (omega arith) (turned-follows choices c j k there typed).follows
           (factor-follows choices (with_turned c j k) i j l (turned k) (other-place c.literals i j l (turned k) (let o = ordered in grind (arith, nat_tests)) at) (placed c.literals j (turned k) (slice_get_within c.literals j k there)) differ turned-clause (positives.0 ∙ sym positives.1) (one-type ∙ (typed-at c.variables c.literals j k typed there).same_type)),
       tt,
     ))
