@@ -10,3 +10,4 @@ mod Origins
 mod Replaying
 mod Refuting
 mod OneAnswer
+mod Looking

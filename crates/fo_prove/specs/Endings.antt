@@ -1,5 +1,6 @@
 -- The end of an answer, and the beats before it.
-use Rattle.std.specs.Prelude.{ℕ, ◌≡◌, ◌<◌, ◌≤◌, ◌/◌, ◌%◌, List, length, codes, Option, Some, None}
+use Rattle.std.specs.Prelude.{ℕ, ◌≡◌, ◌<◌, ◌≤◌, ◌/◌, ◌%◌, List, length, codes, Option, Some, None, slice_get}
+use Rattle.fo_text.specs.declared.problem.FoClause.{FoClause}
 use Rattle.fo_text.specs.declared.problem.FoProblem.{FoProblem}
 use Rattle.fo_text.specs.declared.answer.FoEnd.{FoEnd}
 use Rattle.fo_text.specs.AnswerSpellings.{end_text, beat_word, beats_text}
@@ -8,7 +9,7 @@ use Rattle.fo_super.specs.Runs.{search_of}
 use Rattle.fo_super.specs.Turns.{Search}
 use Rattle.fo_prove.specs.declared.status.FoStatus.{FoStatus}
 use Rattle.fo_prove.specs.declared.status.FoStatus.TheVariants as status
-use Rattle.fo_prove.specs.Answers.{beats_of, with_beats, HasRoom, IsRun, IsEnding}
+use Rattle.fo_prove.specs.Answers.{beats_of, with_beats, HasRoom, IsEmptyClause, IsRun, IsEnding}
 use Rattle.fo_prove.specs.Marks.{AreEarlier}
 use Rattle.fo_prove.specs.Proving.{status_of}
 use Rattle.fo_prove.specs.Writing.{IsTaken, IsCut}
@@ -18,6 +19,11 @@ pub record IsSound (s : FoState) : Type 0 where
   pub counted : length s.origins ≡ length s.clauses
   pub earlier : AreEarlier (search_of s).origins
   pub text : length s.problem.clauses < 4294967295
+
+-- none of the first clauses, so many, is empty
+pub record HasNoEmptyBefore (n : ℕ) (cs : List FoClause) : Type 0 where
+  pub within : n ≤ length cs
+  pub none : (m : ℕ) (k : FoClause) → m < n → slice_get cs m ≡ Some k → IsEmptyClause k → ⊥
 
 -- the end of the answer of a run that ends in this state
 pub record IsEndOf (p : FoProblem) (s : Search) (st : FoStatus) (text : List ℕ) : Type 0 where

@@ -5,7 +5,7 @@ ghost use Rattle.fo_text.specs.AnswerSpellings.{end_text};
 ghost use Rattle.fo_super.specs.Outcomes.{HoldsOfNone, IsLeast};
 ghost use Rattle.fo_super.specs.Runs.{search_of};
 ghost use Rattle.fo_prove.specs.Answers.{HasRoom, IsEmptyClause, IsGoing};
-ghost use Rattle.fo_prove.specs.Endings.{IsEndOf, IsSound};
+ghost use Rattle.fo_prove.specs.Endings.{HasNoEmptyBefore, IsEndOf, IsSound};
 
 use crate::lines::refutation;
 use crate::status::FoStatus;
@@ -25,11 +25,12 @@ pub(crate) struct EndText {
     pub text: Vec<u8>,
 }
 
-/// The number of the first clause without literals.
-fn first_empty(clauses: &[FoClause]) -> Option<usize>
+/// The number of the first clause without literals; so many first ones are none.
+fn first_empty(clauses: &[FoClause], looked: usize) -> Option<usize>
+    requires { HasNoEmptyBefore looked clauses.now }
     ensures { MatchOption result (HoldsOfNone IsEmptyClause clauses.now) (IsLeast IsEmptyClause clauses.now) }
 {
-    let mut at = 0;
+    let mut at = looked;
     while at < clauses.len() {
         let clause = &clauses[at];
         if clause.lits.is_empty() {
@@ -97,14 +98,20 @@ fn is_going(state: &FoState) -> bool
     !state.passive.is_empty()
 }
 
-/// The end of the answer, if the run ends in this state.
-pub(crate) fn ending(alloc: Global, state: &FoState) -> Result<Option<EndText>, AllocError>
+/// The end of the answer, if the run ends in this state. So many first clauses are known to have
+/// literals.
+pub(crate) fn ending(
+    alloc: Global,
+    state: &FoState,
+    looked: usize,
+) -> Result<Option<EndText>, AllocError>
     requires sound { IsSound state.now }
     requires room { HasRoom (search_of state.now) }
     requires turns { state.now.turns ≤ state.now.problem.turns }
+    requires looked { HasNoEmptyBefore looked state.now.clauses }
     ensures { IfOk result (λ o. MatchOption o (IsGoing state.now.problem (search_of state.now)) (λ e. IsEndOf state.now.problem (search_of state.now) e.status e.text.items)) }
 {
-    match first_empty(state.clauses.as_slice()) {
+    match first_empty(state.clauses.as_slice(), looked) {
         Some(empty) => {
             let e = refuting(alloc, state, empty)?;
             Ok(Some(e))

@@ -1,11 +1,11 @@
 //! Runs of the machine with their beats and their ends.
 
-ghost use Rattle.std.specs.Prelude.{◌≡◌, ◌+◌, ◌<◌, ◌≤◌, List, ℕ, Option, MatchOption};
+ghost use Rattle.std.specs.Prelude.{◌≡◌, ◌+◌, ◌<◌, ◌≤◌, List, ℕ, Option, MatchOption, length};
 ghost use Rattle.leo_edge.specs.Outside.{HasRisen};
 ghost use Rattle.fo_text.specs.Problems.{IsProblem};
 ghost use Rattle.fo_super.specs.Runs.{search_of, IsState};
 ghost use Rattle.fo_prove.specs.Answers.{HasRoom, IsGoing, IsRun};
-ghost use Rattle.fo_prove.specs.Endings.{IsBeat, IsPut, IsSoFar};
+ghost use Rattle.fo_prove.specs.Endings.{HasNoEmptyBefore, IsBeat, IsPut, IsSoFar};
 ghost use Rattle.fo_prove.specs.Proving.{IsWorked};
 
 use crate::ends::ending;
@@ -58,6 +58,7 @@ fn advance<O: Sink>(alloc: Global, state: &mut FoState, out: &mut O) -> Option<F
     ensures never_falls { O.faults out.old ≤ O.faults out.new }
     ensures advanced { (before : Option (List ℕ)) → IsSoFar state.old.problem (search_of state.old) before (O.taken out.old) → MatchOption result (IsSoFar state.old.problem (search_of state.new) before (O.taken out.new)) (IsWorked state.old.problem before (O.taken out.new) (HasRisen (O.faults out.old) (O.faults out.new))) }
     ensures falls { MatchOption result (state.new.turns ≡ state.old.turns + 1) (λ _. Unit {0}) }
+    ensures looked { MatchOption result (HasNoEmptyBefore (length state.old.clauses) state.new.clauses) (λ _. Unit {0}) }
 {
     match fo_turn(alloc, state) {
         Ok(()) => beat(state.turns, out),
@@ -65,20 +66,23 @@ fn advance<O: Sink>(alloc: Global, state: &mut FoState, out: &mut O) -> Option<F
     }
 }
 
-/// Ends the run where it ends in this state, or else advances it.
-fn step<O: Sink>(alloc: Global, state: &mut FoState, out: &mut O) -> Option<FoStatus>
+/// Ends the run where it ends in this state, or else advances it. So many first clauses are known to have
+/// literals.
+fn step<O: Sink>(alloc: Global, state: &mut FoState, looked: usize, out: &mut O) -> Option<FoStatus>
     requires state { IsState state.old }
     requires problem { IsProblem state.old.problem }
     requires room { HasRoom (search_of state.old) }
     requires turns { state.old.turns ≤ state.old.problem.turns }
     requires run { IsRun state.old.problem (search_of state.old) }
+    requires looked { HasNoEmptyBefore looked state.old.clauses }
     ensures problem { state.new.problem ≡ state.old.problem }
     ensures state { IsState state.new }
     ensures never_falls { O.faults out.old ≤ O.faults out.new }
     ensures stepped { (before : Option (List ℕ)) → IsSoFar state.old.problem (search_of state.old) before (O.taken out.old) → MatchOption result (IsSoFar state.old.problem (search_of state.new) before (O.taken out.new)) (IsWorked state.old.problem before (O.taken out.new) (HasRisen (O.faults out.old) (O.faults out.new))) }
     ensures falls { MatchOption result ((state.new.turns ≡ state.old.turns + 1) × (state.old.turns < state.old.problem.turns)) (λ _. Unit {0}) }
+    ensures looked { MatchOption result (HasNoEmptyBefore (length state.old.clauses) state.new.clauses) (λ _. Unit {0}) }
 {
-    match ending(alloc, state) {
+    match ending(alloc, state, looked) {
         Ok(None) => advance(alloc, state, out),
         Ok(Some(end)) => Some(put_end(out, end.status, &end.text)),
         Err(_) => Some(FoStatus::NoMemory),
@@ -94,10 +98,12 @@ pub(crate) fn run<O: Sink>(alloc: Global, problem: FoProblem, out: &mut O) -> Fo
         Ok(state) => state,
         Err(_) => return FoStatus::NoMemory,
     };
+    let mut looked = 0;
     'turns: loop {
-        match step(alloc, &mut state, out) {
+        let count = state.clauses.len();
+        match step(alloc, &mut state, looked, out) {
             Some(status) => return status,
-            None => {}
+            None => looked = count,
         }
     }
 }

@@ -1,6 +1,7 @@
 -- Notes on clauses.
-use Rattle.std.proofs.Common.{ℕ, zero, suc, ◌≡◌, ◌∙◌, ◌<◌, ◌≤◌, List, [], ◌∷◌, ◌++◌, length, map, take, slice_index_or, refl, sym, ap, subst, arith}
+use Rattle.std.proofs.Common.{ℕ, zero, suc, ◌≡◌, ◌∙◌, ◌<◌, ◌≤◌, List, [], ◌∷◌, ◌++◌, length, map, take, slice_get, Some, refl, sym, ap, arith, inl, inr, ◌+◌}
 use Rattle.std.specs.Prelude.{bit_and}
+use Rattle.std.proofs.lemmas.Bool.{cases_lt}
 use Rattle.std.proofs.lemmas.List.{map-append}
 use Rattle.fo_text.specs.declared.problem.FoSym.{FoSym}
 use Rattle.fo_text.specs.declared.problem.FoClause.{FoClause}
@@ -10,6 +11,7 @@ use Rattle.fo_super.specs.Marks.{mask}
 use Rattle.fo_super.specs.Notes.{clause_mask, AreMoreNotes, AreNotes}
 use Rattle.fo_super.specs.Outcomes.{IsIdentical}
 use Rattle.fo_super.specs.Subsumption.{Subsumes}
+use Rattle.fo_super.proofs.Answering.{NoneBelow}
 use Rattle.fo_super.proofs.Fronts.{front-cut, front-long, front-same, front-trans}
 use Rattle.fo_super.proofs.Masks.{subsumed-within}
 use Rattle.fo_super.proofs.Never.{length-mapped}
@@ -21,23 +23,40 @@ pub more-trans : (n m k : FoNotes) → AreMoreNotes n m → AreMoreNotes m k →
 more-trans n m k h i = record { masks = front-trans n.masks m.masks k.masks h.masks i.masks; weights = front-trans n.weights m.weights k.weights h.weights i.weights }
 
 -- a mask at a place
-pub mask-at : (kept : List FoClause) (masks : List ℕ) (i : ℕ) (k : FoClause) → masks ≡ map clause_mask kept → i < length kept → k ≡ slice_index_or kept i k → slice_index_or masks i 0 ≡ mask k.lits
-mask-at kept masks i k e l is = ap (λ (x : List ℕ). slice_index_or x i 0) e ∙ go kept i l is
-  where
-    go : (xs : List FoClause) (i : ℕ) → i < length xs → k ≡ slice_index_or xs i k → slice_index_or (map clause_mask xs) i 0 ≡ mask k.lits
-    go [] i l is = absurd (omega (arith, l))
-    go (x ∷ xs) zero l is = ap clause_mask (sym is)
-    go (x ∷ xs) (suc i) l is = go xs i (omega (arith, l)) is
+map-there : (kept : List FoClause) (i : ℕ) (k : FoClause) → slice_get kept i ≡ Some k → slice_get (map clause_mask kept) i ≡ Some (mask k.lits)
+map-there [] i k e = absurd (let f : ⊥ = cc in f)
+map-there (x ∷ kept) zero k e = (let same : x ≡ k = cc in ap (λ (y : FoClause). Some (clause_mask y)) same)
+map-there (x ∷ kept) (suc i) k e = map-there kept i k e
 
-pub masks-long : (kept : List FoClause) (masks : List ℕ) (i : ℕ) → masks ≡ map clause_mask kept → i < length kept → i < length masks
-masks-long kept masks i e l = (let h : length masks ≡ length kept = ap length e ∙ length-mapped clause_mask kept in omega (arith, h, l))
+module _ (kept : List FoClause) (masks : List ℕ) (are : masks ≡ map clause_mask kept) (c : FoClause) (m : ℕ) (is : m ≡ mask c.lits) where
+  mask-there : (i : ℕ) (k : FoClause) → slice_get kept i ≡ Some k → slice_get masks i ≡ Some (mask k.lits)
+  mask-there i k e = ap (λ (x : List ℕ). slice_get x i) are ∙ map-there kept i k e
 
--- other masks
-pub not-copy : (k c : FoClause) (m n : ℕ) → m ≡ mask k.lits → n ≡ mask c.lits → (m ≡ n → ⊥) → IsIdentical k c → ⊥
-not-copy k c m n e f other h = other (e ∙ ap mask h.literals ∙ sym f)
+  pub as-long : (n : ℕ) → n ≤ length masks → n ≤ length kept
+  as-long n l = (let h : length masks ≡ length kept = ap length are ∙ length-mapped clause_mask kept in omega (arith, h, l))
 
-pub not-subsuming : (syms : List FoSym) (k c : FoClause) (m n : ℕ) → m ≡ mask k.lits → n ≡ mask c.lits → (bit_and m n ≡ m → ⊥) → Subsumes syms k c → ⊥
-not-subsuming syms k c m n e f other h = other (ap (λ x. bit_and x n) e ∙ ap (bit_and (mask k.lits)) f ∙ subsumed-within syms k c h ∙ sym e)
+  pub as-many : (n : ℕ) → n < length kept → n + 1 ≤ length masks
+  as-many n l = (let h : length masks ≡ length kept = ap length are ∙ length-mapped clause_mask kept in omega (arith, h, l))
+
+  -- none is the same where the masks are others
+  pub none-copied : (from to : ℕ) → NoneBelow (λ (k : FoClause). IsIdentical k c) kept from → ((i : ℕ) → from ≤ i → i < to → slice_get masks i ≡ Some m → ⊥) → NoneBelow (λ (k : FoClause). IsIdentical k c) kept to
+  none-copied from to none passed i k l at same =
+      elim (cases_lt i from) [
+        | inl a ↦ none i k a at same
+        | inr a ↦ passed i a l (mask-there i k at ∙ ap Some (ap mask same.literals ∙ sym is))
+      ]
+
+  -- and none subsumes the clause where the masks do not lie within its mask
+  pub none-subsuming : (syms : List FoSym) (from to : ℕ) → NoneBelow (λ (k : FoClause). Subsumes syms k c) kept from → ((i n : ℕ) → from ≤ i → i < to → slice_get masks i ≡ Some n → bit_and n m ≡ n → ⊥) → NoneBelow (λ (k : FoClause). Subsumes syms k c) kept to
+  none-subsuming syms from to none passed i k l at h =
+      elim (cases_lt i from) [
+        | inl a ↦ none i k a at h
+        | inr a ↦ passed i (mask k.lits) a l (mask-there i k at) (ap (bit_and (mask k.lits)) is ∙ subsumed-within syms k c h)
+      ]
+
+-- at the start
+pub none-below : (P : FoClause → Type 0) (kept : List FoClause) → NoneBelow P kept 0
+none-below P kept i k l e h = omega (arith, l)
 
 -- a note that is put at the end
 pub noted-more : (old new : FoNotes) (c : FoClause) → new.masks ≡ old.masks ++ mask c.lits ∷ [] → new.weights ≡ old.weights ++ clause_weight c ∷ [] → (cs : List FoClause) → AreNotes old cs → AreNotes new (cs ++ c ∷ [])

@@ -1,6 +1,6 @@
 //! The outcome of a clause.
 
-ghost use Rattle.std.specs.Prelude.{◌≡◌, ◌<◌, ◌≤◌, ◌⊎◌, length, map, IfOk, MatchOption};
+ghost use Rattle.std.specs.Prelude.{◌≡◌, ◌<◌, ◌≤◌, ◌⊎◌, ℕ, Some, bit_and, length, map, slice_get, IfOk, MatchOption};
 ghost use Rattle.std.specs.Bool.{Decides};
 ghost use Rattle.fo_super.specs.Subsumption.{Subsumes};
 ghost use Rattle.fo_super.specs.Marks.{mask as mask_of};
@@ -44,54 +44,55 @@ fn is_heavy(clause: &FoClause, limit: u32, instance: &FoClause) -> bool
     is_heavier(clause.lits.as_slice(), limit)
 }
 
-/// Whether a kept clause is the same. It is not where the masks differ.
-fn is_copy(kept: &FoClause, kept_mask: u64, clause: &FoClause, mask: u64) -> bool
-    requires kept { kept_mask ≡ mask_of kept.now.lits }
-    requires mask { mask ≡ mask_of clause.now.lits }
-    ensures { Decides result (IsIdentical kept.now clause.now) }
+/// The first number from one on whose mask is this one; how many masks there are where none is.
+fn next_equal(masks: &[u64], mask: u64, from: usize) -> usize
+    requires { from ≤ length masks.now }
+    ensures from { from ≤ result }
+    ensures within { result ≤ length masks.now }
+    ensures passed { (i : ℕ) → from ≤ i → i < result → slice_get masks.now i ≡ Some mask → ⊥ }
 {
-    if kept_mask != mask {
-        return false;
+    for number in from..masks.len() {
+        if masks[number] == mask {
+            return number;
+        }
     }
-    is_identical(kept, clause)
+    masks.len()
 }
 
-/// The least number of a kept clause that is the same.
+/// The least number of a kept clause that is the same. It has the same mask.
 fn copied(kept: &[FoClause], masks: &[u64], clause: &FoClause, mask: u64) -> Option<u32>
     requires few { length kept.now < 100000 }
     requires masks { masks.now ≡ map clause_mask kept.now }
     requires mask { mask ≡ mask_of clause.now.lits }
     ensures { MatchOption result (HoldsOfNone (λ k. IsIdentical k clause.now) kept.now) (IsLeast (λ k. IsIdentical k clause.now) kept.now) }
 {
-    for number in 0..kept.len() {
-        if is_copy(&kept[number], masks[number], clause, mask) {
+    let mut number = next_equal(masks, mask, 0);
+    while number < kept.len() {
+        if is_identical(&kept[number], clause) {
             return Some(number as u32);
         }
+        number = next_equal(masks, mask, number + 1);
     }
     None
 }
 
-/// Whether a kept clause subsumes the clause. It does not where that lacks one of its marks.
-fn is_subsuming(
-    alloc: Global,
-    syms: &[FoSym],
-    kept: &FoClause,
-    kept_mask: u64,
-    clause: &FoClause,
-    mask: u64,
-) -> Result<bool, AllocError>
-    requires kept { kept_mask ≡ mask_of kept.now.lits }
-    requires mask { mask ≡ mask_of clause.now.lits }
-    ensures { IfOk result (λ b. Decides b (Subsumes syms.now kept.now clause.now)) }
+/// The first number from one on whose mask has no bit that is not in this one; how many masks there are
+/// where none is.
+fn next_within(masks: &[u64], mask: u64, from: usize) -> usize
+    requires { from ≤ length masks.now }
+    ensures from { from ≤ result }
+    ensures within { result ≤ length masks.now }
+    ensures passed { (i m : ℕ) → from ≤ i → i < result → slice_get masks.now i ≡ Some m → bit_and m mask ≡ m → ⊥ }
 {
-    if kept_mask & mask != kept_mask {
-        return Ok(false);
+    for number in from..masks.len() {
+        if masks[number] & mask == masks[number] {
+            return number;
+        }
     }
-    let found = subsumes(alloc, syms, kept, clause)?;
-    Ok(found)
+    masks.len()
 }
 
-/// The least number of a kept clause that subsumes the clause.
+/// The least number of a kept clause that subsumes the clause. It has no mark that the clause lacks.
 fn subsuming(
     alloc: Global,
     syms: &[FoSym],
@@ -105,11 +106,13 @@ fn subsuming(
     requires mask { mask ≡ mask_of clause.now.lits }
     ensures { IfOk result (λ o. MatchOption o (HoldsOfNone (λ k. Subsumes syms.now k clause.now) kept.now) (IsLeast (λ k. Subsumes syms.now k clause.now) kept.now)) }
 {
-    for number in 0..kept.len() {
-        let found = is_subsuming(alloc, syms, &kept[number], masks[number], clause, mask)?;
+    let mut number = next_within(masks, mask, 0);
+    while number < kept.len() {
+        let found = subsumes(alloc, syms, &kept[number], clause)?;
         if found {
             return Ok(Some(number as u32));
         }
+        number = next_within(masks, mask, number + 1);
     }
     Ok(None)
 }

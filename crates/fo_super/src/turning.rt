@@ -1,9 +1,8 @@
 //! One turn of the machine.
 
-ghost use Rattle.std.specs.Prelude.{◌≡◌, ◌+◌, ◌<◌, ◌≤◌, ◌^◌, ◌-◌, ◌++◌, ◌∷◌, [], ℕ, suc, List, IfOk, IfErr, MatchOption, OnOk, OnErr, length, slice_get, Some, false};
+ghost use Rattle.std.specs.Prelude.{◌≡◌, ◌+◌, ◌<◌, ◌≤◌, ◌^◌, ◌-◌, ◌++◌, ◌∷◌, [], ℕ, suc, List, IfOk, IfErr, MatchOption, OnOk, OnErr, length, map, slice_get, Some, false};
 ghost use Rattle.std.specs.List.{AllByRecursion};
 ghost use Rattle.fo_text.specs.declared.problem.FoClause.{FoClause};
-ghost use Rattle.fo_text.specs.Words.{most_number};
 ghost use Rattle.fo_replay.specs.Replays.{clause_weight};
 ghost use Rattle.fo_super.specs.Notes.{AreNotes};
 ghost use Rattle.fo_super.specs.Passives.{others_from, without as without_number, IsFirst, IsRisingFrom};
@@ -11,9 +10,7 @@ ghost use Rattle.fo_super.specs.Runs.{search_after, search_of, IsGrown, IsState}
 ghost use Rattle.fo_super.specs.Turns.{IsGiven, IsTurn};
 
 use crate::state::{FoState, push_numbers, shorten};
-use crate::weights::weight;
 use crate::working::work_turn;
-use fo_text::problem::FoClause;
 use sqlite_items::Items;
 use std::alloc::{AllocError, Global};
 
@@ -40,32 +37,30 @@ fn lighter(first: Weighed, second: Weighed) -> Weighed
 }
 
 /// The clause at a place of the list of passive clauses, weighed.
-fn weighed_at(clauses: &[FoClause], passive: &[u32], place: usize) -> Weighed
+fn weighed_at(weights: &[u128], passive: &[u32], place: usize) -> Weighed
     requires place { place < length passive.now }
-    requires named { AllByRecursion (λ n. n < length clauses.now) passive.now }
-    requires few { AllByRecursion (λ c. length c.lits ≤ most_number) clauses.now }
+    requires named { AllByRecursion (λ n. n < length weights.now) passive.now }
     ensures place { result.place ≡ place }
-    ensures weight { (n : ℕ) (c : FoClause) → slice_get passive.now place ≡ Some n → slice_get clauses.now n ≡ Some c → result.weight ≡ clause_weight c }
+    ensures weight { (clauses : List FoClause) (n : ℕ) (c : FoClause) → weights.now ≡ map clause_weight clauses → slice_get passive.now place ≡ Some n → slice_get clauses n ≡ Some c → result.weight ≡ clause_weight c }
 {
     let number = passive[place];
     Weighed {
         place,
-        weight: weight(&clauses[number as usize]),
+        weight: weights[number as usize],
     }
 }
 
 /// The place of the lightest of the passive clauses, the first of these.
-fn lightest(clauses: &[FoClause], passive: &[u32]) -> usize
+fn lightest(weights: &[u128], passive: &[u32]) -> usize
     requires some { passive.now ≡ [] → ⊥ }
     requires rising { IsRisingFrom 0 passive.now }
-    requires named { AllByRecursion (λ n. n < length clauses.now) passive.now }
-    requires few { AllByRecursion (λ c. length c.lits ≤ most_number) clauses.now }
+    requires named { AllByRecursion (λ n. n < length weights.now) passive.now }
     ensures inside { result < length passive.now }
-    ensures first { (g : ℕ) → slice_get passive.now result ≡ Some g → IsFirst false clauses.now passive.now g }
+    ensures first { (clauses : List FoClause) (g : ℕ) → weights.now ≡ map clause_weight clauses → slice_get passive.now result ≡ Some g → IsFirst false clauses passive.now g }
 {
-    let mut best = weighed_at(clauses, passive, 0);
+    let mut best = weighed_at(weights, passive, 0);
     for place in 1..passive.len() {
-        best = lighter(best, weighed_at(clauses, passive, place));
+        best = lighter(best, weighed_at(weights, passive, place));
     }
     best.place
 }
@@ -81,7 +76,7 @@ fn given(state: &FoState) -> u32
     if (state.turns + 1) % OLDEST_EVERY == 0 {
         return passive[0];
     }
-    let place = lightest(state.clauses.as_slice(), passive);
+    let place = lightest(state.notes.weights.as_slice(), passive);
     passive[place]
 }
 

@@ -3,6 +3,7 @@ use Rattle.fo_super.specs.Turns.{start}
 use Rattle.fo_super.specs.Runs.{search_of}
 use Rattle.fo_prove.specs.Endings.{IsSoFar}
 use Rattle.fo_prove.proofs.Finishing.{started}
+use Rattle.fo_prove.proofs.Looking.{none_looked}
 use Rattle.fo_prove.proofs.Working.{wants_memory, worked_so, risen_since}
 use Rattle.fo_prove.proofs.running.run.Goals as goal
 
@@ -17,6 +18,7 @@ turns-init g c =
       problem = c.in-Ok.ensures.problem;
       state = c.in-Ok.ensures.state;
       so_far = subst (λ q. IsSoFar q (search_of c.in-Ok.state) before before) (sym c.in-Ok.ensures.problem) (started p (search_of c.in-Ok.state) before c.in-Ok.ensures.start);
+      looked = none_looked c.in-Ok.state.clauses;
       never_falls = omega arith;
     }
 

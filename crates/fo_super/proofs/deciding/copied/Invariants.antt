@@ -1,7 +1,11 @@
+use Rattle.std.proofs.Common.{◌<◌, ◌≤◌, ◌-◌, length}
 use Rattle.fo_text.specs.declared.problem.FoClause.{FoClause}
 use Rattle.fo_super.specs.Outcomes.{IsIdentical}
 use Rattle.fo_super.proofs.Answering.{NoneBelow}
 use Rattle.fo_super.proofs.deciding.copied.Given as goal
 
 abbrev pub invariant-loop-number : goal.invariant-loop-number
-invariant-loop-number l = NoneBelow (λ (k : FoClause). IsIdentical k l.clause) l.kept l.number
+invariant-loop-number l = (l.number ≤ length l.kept) × NoneBelow (λ (k : FoClause). IsIdentical k l.clause) l.kept l.number
+
+abbrev pub decreases-loop-number : goal.decreases-loop-number
+decreases-loop-number l = length l.kept - l.number
