@@ -4,9 +4,10 @@ use Rattle.std.proofs.lemmas.List.{drop_at}
 use Rattle.std.proofs.Math.Seq.{take-append_seam}
 use Rattle.leo_lex.specs.declared.token.Token.{Token}
 use Rattle.leo_lex.specs.Bytes.{is_blank}
-use Rattle.leo_lex.specs.Cut.{gap, token, Begins, Cut, done, pass, keep}
+use Rattle.leo_lex.specs.Cut.{gap, token, Begins, Cut, done, pass, keep, AreTokens}
 use Rattle.leo_lex.specs.Spells.{Spells, nothing, blank, word, text_of, HasTokens}
 use Rattle.leo_lex.proofs.Pieces.{begins_gap, blank_ink}
+use Rattle.leo_lex.proofs.Cuts.{tokens_once}
 use Rattle.leo_lex.proofs.Ends.{token_begins}
 
 pub blank_begins : (b : ℕ) (rest : List ℕ) → is_blank b ≡ true → Begins (b ∷ rest) gap 1
@@ -48,3 +49,7 @@ pub has_tokens : (bytes : List ℕ) (words : List (List ℕ)) → Spells bytes w
 has_tokens bytes words h =
     let all = from [] bytes words bytes 0 h refl refl in
     record { tokens = all.tokens; are_tokens = all.cut; words_of = all.words_of }
+
+-- a text has one list of tokens alone
+pub same_tokens : (bytes : List ℕ) (tokens others : List Token) → AreTokens bytes tokens → AreTokens bytes others → tokens ≡ others
+same_tokens bytes tokens others h k = tokens_once bytes tokens others h k
