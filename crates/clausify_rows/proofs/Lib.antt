@@ -1,0 +1,4 @@
+pub mod Ready
+mod Overs
+mod Normals
+mod Answering
