@@ -14,12 +14,11 @@ use Rattle.leo_kernel.specs.Steps.{Line, clause_in, clause_of, line_at}
 use Rattle.leo_kernel.specs.Symbols.{abbreviation_at, abbreviation_of}
 use Rattle.leo_kernel.proofs.Growing.{clause-kept}
 use Rattle.leo_kernel.proofs.LinesGrowing.{lines-grow, lines-kept}
-use Rattle.leo_clausify.specs.Leaves.{last_clause}
-use Rattle.leo_clausify.specs.Splitting.{AreNormal}
 use Rattle.leo_conclude.specs.declared.concluding.Conclusion.{Conclusion}
 use Rattle.leo_conclude.specs.Conclusions.{AreConclusions}
 use Rattle.leo_conclude.specs.Leaving.{AreConstraints, AreNumbersOf}
-use Rattle.leo_conclude.specs.Results.{AreConclusionsOf, IsConclusionOf, conclusion_clause}
+use Rattle.leo_conclude.specs.Results.{AreConclusionsOf, conclusion_clause}
+use Rattle.leo_conclude.proofs.Concluded.{conclusion-grows}
 use Rattle.leo_para.specs.declared.member.Due.{Due}
 use Rattle.leo_turn.specs.declared.search.Search.{Search}
 use Rattle.leo_turn.specs.Changing.{AreAppended, AreReady, lines_before, with_lines}
@@ -30,7 +29,7 @@ use Rattle.leo_turn.specs.Turns.{AreChoicesBelow, Constrained, Setting, Stock, T
 use Rattle.leo_turn.specs.Working.{AreConclusionsAt, AreDueAt, IsConclusionAt, IsDueAt, Makes, constrained_at, no_clause}
 use Rattle.leo_turn.proofs.Growing.{grows-itself, grows-trans}
 use Rattle.leo_turn.proofs.Lists.{get-map, get-within, length-map, longer-get, longer-map, stands-at, take-all, take-next}
-use Rattle.leo_turn.proofs.Valid.{choices-longer, choices-same, clause-longer, clauses-longer, kept-same, lines-same, plain-longer, search-lines, typed-grow}
+use Rattle.leo_turn.proofs.Valid.{choices-longer, choices-same, clause-longer, clauses-longer, kept-same, lines-same, plain-longer, search-lines}
 
 -- the lines of a search that went on, in a bank that grew
 pub lines-later : {c d : Contents} → Extends c d → (old s : Search) → IsSearch c old → Grows old s → IsLonger (lines_of c old) (lines_of d s)
@@ -83,25 +82,12 @@ conclusion-ready c s line r at = record {
   accepted = at.conclusion.accepted;
 }
 
-conclusion-grow : {c d : Contents} → Extends c d → (start : ClauseTree) (r : Conclusion) → IsConclusionOf c start r → IsConclusionOf d start r
-conclusion-grow {c} {d} e start r h =
-    let lines : map (line_at d) r.records ≡ map (line_at c) r.records = lines-kept e r.records h.steps in
-    let clause : clause_at d r.clause ≡ clause_at c r.clause = clause-kept e r.clause h.typed.of_bank in
-    record {
-      typed = typed-grow e r.clause h.typed;
-      normal = subst (λ (k : ClauseTree). AreNormal k.literals) (sym clause) h.normal;
-      steps = lines-grow e r.records h.steps;
-      accepted = λ rule. subst (AreAcceptedAfter (record { clause = start; rule = rule } ∷ [])) (sym lines) (h.accepted rule);
-      some = h.some;
-      ends = ap (last_clause start) lines ∙ h.ends ∙ sym clause;
-    }
-
 conclusion-later : {c d : Contents} → Extends c d → (old s : Search) (line : ℕ) (r : Conclusion) → IsSearch c old → Grows old s → IsConclusionAt c old line r → IsConclusionAt d s line r
 conclusion-later {c} {d} e old s line r h g at = record {
   start = at.start;
   clause = clause-longer (lines-later e old s h g) line at.start at.clause;
   plain = plain-later (lines-later e old s h g) line at.start at.clause at.plain;
-  conclusion = conclusion-grow e at.start r at.conclusion;
+  conclusion = conclusion-grows e at.start r at.conclusion;
 }
 
 -- the first i of the conclusions were taken in
