@@ -1,5 +1,5 @@
 -- The clauses that have been looked at, in search of an empty one.
-use Rattle.std.proofs.Common.{ℕ, zero, suc, ◌≡◌, ◌∙◌, ◌<◌, ◌≤◌, List, [], ◌∷◌, length, Option, Some, None, MatchOption, refl, sym, ap, subst, arith}
+use Rattle.std.proofs.Common.{ℕ, zero, suc, ◌≡◌, ◌<◌, List, [], ◌∷◌, length, Option, Some, None, MatchOption, refl, subst, arith}
 use Rattle.std.specs.List.{slice_get}
 use Rattle.fo_text.specs.declared.problem.FoClause.{FoClause}
 use Rattle.fo_text.specs.declared.problem.FoProblem.{FoProblem}

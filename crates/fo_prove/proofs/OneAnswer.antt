@@ -1,10 +1,8 @@
 -- A problem has one answer.
-use Rattle.std.proofs.Common.{ℕ, suc, ◌≡◌, ◌∙◌, ◌+◌, ◌-◌, ◌<◌, ◌⊎◌, inl, inr, List, [], ◌∷◌, ◌++◌, length, Option, Some, refl, sym, ap, subst, arith}
+use Rattle.std.proofs.Common.{ℕ, ◌≡◌, ◌∙◌, ◌<◌, inl, inr, List, [], ◌∷◌, ◌++◌, length, Option, refl, sym, ap, subst, arith}
 use Rattle.std.specs.Prelude.{slice_index}
-use Rattle.std.specs.List.{slice_get}
 use Rattle.std.specs.Option.{option_map}
 use Rattle.std.proofs.lemmas.Bool.{cases_eq, cases_order}
-use Rattle.fo_terms.specs.Terms.{Terms}
 use Rattle.fo_text.specs.declared.problem.FoClause.{FoClause}
 use Rattle.fo_text.specs.declared.problem.FoProblem.{FoProblem}
 use Rattle.fo_text.specs.declared.answer.FoAnswer.{FoAnswer}
@@ -15,20 +13,18 @@ use Rattle.fo_text.specs.AnswerSpellings.{answer_text}
 use Rattle.fo_text.specs.Problems.{IsProblem}
 use Rattle.fo_replay.specs.Replays.{instance_words}
 use Rattle.fo_super.specs.Conclusions.{lines}
-use Rattle.fo_super.specs.Members.{Member}
 use Rattle.fo_super.specs.Outcomes.{HoldsOfNone, IsLeast}
 use Rattle.fo_super.specs.Runs.{started, IsRunOf}
 use Rattle.fo_super.specs.Runs.{turned as turned_so}
-use Rattle.fo_super.specs.Turns.{Origin, Search, concluded, given, start, IsTurn}
+use Rattle.fo_super.specs.Turns.{Origin, Search, IsTurn}
 use Rattle.fo_super.specs.Unique.{TurnsAreUnique}
 use Rattle.fo_prove.specs.declared.status.FoStatus.{FoStatus}
 use Rattle.fo_prove.specs.declared.status.FoStatus.TheVariants as status
-use Rattle.fo_prove.specs.Answers.{beats_of, begun, refuted, spent, too_long, turned, with_beats, without_room, HasRoom, IsChildRun, IsEmptyClause, IsEnding, IsGoing, IsRun, IsWithin}
+use Rattle.fo_prove.specs.Answers.{beats_of, begun, refuted, spent, too_long, turned, with_beats, without_room, IsChildRun, IsEmptyClause, IsEnding, IsGoing, IsRun, IsWithin}
 use Rattle.fo_prove.specs.Proving.{answered, cut_answer, cut_beats, no_memory, status_of, IsWorked}
-use Rattle.fo_prove.specs.Refutations.{left_out, literals_of, no_more, of_lines, of_text, own_variables, written, AreLines, IsRefutation, RestsOn}
+use Rattle.fo_prove.specs.Refutations.{left_out, no_more, of_lines, of_text, own_variables, written, AreLines, IsRefutation}
 use Rattle.fo_prove.specs.Refutations.AreLines.{of_text as line_of_text}
 use Rattle.fo_prove.specs.Unique.{AnswersAreUnique, IsWhole, WholeAnswersAreUnique}
-use Rattle.fo_prove.specs.Writing.{IsTaken}
 
 no-fault : IsWhole status.WriteFault → ⊥
 no-fault (inl e) = cc

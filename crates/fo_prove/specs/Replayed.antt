@@ -1,17 +1,11 @@
 -- The steps of a refutation, replayed.
 use Rattle.std.specs.Prelude.{ℕ, ◌≡◌, List, Some, slice_get}
-use Rattle.std.specs.List.{AllByRecursion}
-use Rattle.fo_terms.specs.Terms.{Terms}
-use Rattle.fo_text.specs.declared.problem.FoSym.{FoSym}
 use Rattle.fo_text.specs.declared.problem.FoClause.{FoClause}
 use Rattle.fo_text.specs.declared.problem.FoProblem.{FoProblem}
 use Rattle.fo_text.specs.declared.answer.FoStep.{FoStep}
 use Rattle.fo_text.specs.declared.answer.FoEnd.TheVariants.{Refuted}
-use Rattle.fo_text.specs.Problems.{IsLiteral, IsProblem}
-use Rattle.fo_super.specs.Members.{Member}
-use Rattle.fo_super.specs.Conclusions.{IsDue}
+use Rattle.fo_text.specs.Problems.{IsProblem}
 use Rattle.fo_super.specs.Replaying.{ReplayInTurn}
-use Rattle.fo_super.specs.Viewing.{NamesSorted}
 use Rattle.fo_prove.specs.Answers.{with_beats, IsChildRun, IsEmptyClause}
 
 -- the steps replay, each over the clauses of the text and of the steps before it, and one of their clauses is empty
