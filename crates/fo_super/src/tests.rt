@@ -1,5 +1,8 @@
 //! Tests.
 
+ghost use Rattle.std.specs.Prelude.{◌∷◌, [], IfOk};
+ghost use Rattle.fo_super.specs.Notes.{AreNotes};
+
 use crate::deciding::outcome;
 use crate::literals::is_greater;
 use crate::notes::FoNotes;
@@ -8,6 +11,7 @@ use fo_terms::term::{FoNode, FoTerm};
 use fo_text::problem::{FoClause, FoLit, FoSym};
 use sqlite_items::Items;
 use std::alloc::Global;
+use std::slice;
 use std::test::Fail;
 
 const V0: FoNode = FoNode::Var(0);
@@ -34,10 +38,20 @@ fn unit(alloc: Global, vars: &[u32], literal: FoLit) -> Result<FoClause, Fail> {
     Ok(FoClause { vars, lits })
 }
 
+/// Notes on one clause.
+fn noted(alloc: Global, kept: &FoClause) -> Result<FoNotes, Fail>
+    ensures { IfOk result (λ n. AreNotes n (kept.now ∷ [])) }
+{
+    if kept.lits.len() > 3 {
+        return Err("too many literals".into());
+    }
+    let mut notes = FoNotes::new(alloc);
+    notes.push(alloc, kept)?;
+    Ok(notes)
+}
+
 /// What becomes of a clause beside one that is kept.
-fn found(alloc: Global, kept: FoClause, clause: &FoClause) -> Result<FoOutcome, Fail> {
-    let mut clauses = Vec::new(alloc);
-    clauses.push(kept)?;
+fn found(alloc: Global, kept: &FoClause, clause: &FoClause) -> Result<FoOutcome, Fail> {
     let mut syms = Vec::new(alloc);
     for _ in 0..4 {
         syms.push(FoSym {
@@ -45,8 +59,9 @@ fn found(alloc: Global, kept: FoClause, clause: &FoClause) -> Result<FoOutcome, 
             args: Items::new(alloc),
         })?;
     }
-    let notes = FoNotes::of(alloc, &clauses)?;
-    let answer = outcome(alloc, &syms, &clauses, &notes, clause, 256, clause)?;
+    let notes = noted(alloc, kept)?;
+    let clauses = slice::from_ref(kept);
+    let answer = outcome(alloc, &syms, clauses, &notes, clause, 256, clause)?;
     Ok(answer)
 }
 
@@ -73,9 +88,9 @@ fn variables_go_to_terms_of_their_sorts(rt: HostRuntime) -> Result<(), Fail> {
         literal(rt.alloc(), true, &[V0], &[V1])?,
     )?;
     assert_eq!(rt;
-        found(rt.alloc(), general, &clause)?,
+        found(rt.alloc(), &general, &clause)?,
         FoOutcome::Subsumed(0)
     );
-    assert_eq!(rt; found(rt.alloc(), other, &clause)?, FoOutcome::Kept);
+    assert_eq!(rt; found(rt.alloc(), &other, &clause)?, FoOutcome::Kept);
     Ok(())
 }
