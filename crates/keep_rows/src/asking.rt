@@ -170,14 +170,7 @@ fn decided(
         return Ok(None);
     }
     let fronts = fronts_of(alloc, bank, row.kept.clauses())?;
-    let decided = outcome(
-        alloc,
-        bank,
-        &row.kept,
-        fronts.as_slice(),
-        &row.found,
-        limit,
-    )?;
+    let decided = outcome(alloc, bank, &row.kept, fronts.as_slice(), &row.found, limit)?;
     Ok(Some(decided))
 }
 
