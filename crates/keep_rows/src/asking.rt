@@ -10,7 +10,7 @@ ghost use Rattle.keep_rows.specs.Boards.{AreClausesOf, IsBoard};
 use crate::board::{Board, read_clause};
 use crate::typing::{are_typed, is_typed};
 use leo_clause::Clause;
-use leo_keep::{Front, Kept, Outcome, front_of, outcome};
+use leo_keep::{Fronts, Kept, Outcome, front_of, outcome};
 use leo_terms::Bank;
 use std::alloc::{AllocError, Global};
 
@@ -142,13 +142,13 @@ fn fronts_of(
     alloc: Global,
     bank: &Bank,
     clauses: &[Clause],
-) -> Result<Vec<Option<Front>>, AllocError>
+) -> Result<Fronts, AllocError>
     requires { AreClausesOf bank.now clauses.now }
-    ensures { IfOk result (λ fs. AreFronts bank.now clauses.now fs.items) }
+    ensures { IfOk result (AreFronts bank.now clauses.now) }
 {
-    let mut fronts = Vec::new(alloc);
+    let mut fronts = Fronts::new(alloc);
     for clause in clauses {
-        fronts.push(front_of(bank, clause))?;
+        fronts.add(front_of(bank, clause))?;
     }
     Ok(fronts)
 }
@@ -170,7 +170,7 @@ fn decided(
         return Ok(None);
     }
     let fronts = fronts_of(alloc, bank, row.kept.clauses())?;
-    let decided = outcome(alloc, bank, &row.kept, fronts.as_slice(), &row.found, limit)?;
+    let decided = outcome(alloc, bank, &row.kept, &fronts, &row.found, limit)?;
     Ok(Some(decided))
 }
 

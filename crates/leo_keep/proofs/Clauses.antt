@@ -1,5 +1,5 @@
 -- Kept clauses: which are the same, and which comes first.
-use Rattle.std.proofs.Common.{ℕ, zero, suc, nat_eq, ◌≡◌, ◌<◌, ◌≤◌, Bool, true, false, ◌&&◌, List, [], ◌∷◌, length, map, slice_get, Some, refl, sym, ap, subst, ◌⊎◌}
+use Rattle.std.proofs.Common.{ℕ, zero, suc, nat_eq, ◌≡◌, ◌∙◌, ◌<◌, ◌≤◌, Bool, true, false, ◌&&◌, List, [], ◌∷◌, length, map, slice_get, Some, refl, sym, ap, subst, ◌⊎◌}
 use Rattle.std.specs.Bool.{beq, Decides}
 use Rattle.std.proofs.lemmas.Bool.{and_parts}
 use Rattle.std.proofs.lemmas.Bool.Decides.{Decides-like}
@@ -10,6 +10,7 @@ use Rattle.leo_clause.specs.declared.clause.Lit.{Lit}
 use Rattle.leo_clause.specs.declared.clause.Clause.{Clause}
 use Rattle.leo_clause.specs.Trees.{Literal, ClauseTree, literal_at, clause_at}
 use Rattle.leo_clause.specs.Typed.{AreTypesOf, AreLiteralsOf, IsClauseOf, IsTypedIn}
+use Rattle.leo_keep.specs.Heads.{HasHeads, applied_head}
 use Rattle.leo_keep.specs.Outcomes.{AreTypedIn, HoldsOfNone, IsLeast, LacksRoom}
 use Rattle.leo_keep.proofs.Numbers.{equal-numbers, get-from_map, get-mapped, NoneBelow, none-all, same-number}
 
@@ -67,6 +68,15 @@ module _ (c : Contents) (b : IsBank c) where
 
   pub other-literals : (k d : Clause) → IsClauseOf c k → IsClauseOf c d → (k.lits ≡ d.lits → ⊥) → clause_at c k ≡ clause_at c d → ⊥
   other-literals k d h m f e = f (lits-same k.lits d.lits h.literals_of m.literals_of (ap (λ (x : ClauseTree). x.literals) e))
+
+  -- heads of one literal are one
+  pub heads-same : (l m : Literal) (h k : Lit) → HasHeads c l h → HasHeads c m k → l ≡ m → h ≡ k
+  unfolding lit
+  heads-same l m h k x y e =
+      parts-same h.pos k.pos h.left k.left h.right k.right
+      (x.sign ∙ ap (λ (x : Literal). x.positive) e ∙ sym y.sign)
+      (term-shared b h.left k.left x.left_within y.left_within (x.left ∙ ap (λ (x : Literal). applied_head x.left) e ∙ sym y.left))
+      (term-shared b h.right k.right x.right_within y.right_within (x.right ∙ ap (λ (x : Literal). applied_head x.right) e ∙ sym y.right))
 
   clause-of : (vs ws : List ℕ) (ls ms : List Lit) → vs ≡ ws → ls ≡ ms → clause_at c (record { vars = vs; lits = ls }) ≡ clause_at c (record { vars = ws; lits = ms })
   clause-of vs ws ls ms e f = rw (e, f) refl

@@ -14,4 +14,6 @@ mod Joining
 mod Matched
 mod Sending
 mod Fronting
+mod Grouping
+mod Lowering
 pub mod CallerLemmas

@@ -5,3 +5,4 @@ pub mod Laws
 pub mod Matching
 pub mod Heads
 pub mod Fronts
+pub mod Groups

@@ -2,7 +2,7 @@
 
 ghost use Rattle.std.specs.Prelude.{[], ◌≡◌};
 
-use crate::{Kept, Outcome, front_of, outcome};
+use crate::{Fronts, Kept, Outcome, front_of, outcome};
 use leo_clause::Clause;
 use leo_items::Items;
 use leo_terms::Bank;
@@ -25,12 +25,14 @@ fn is_kept_once(alloc: Global, bank: &Bank, kept: &mut Kept) -> Result<bool, All
     requires { kept.old ≡ [] }
 {
     let clause = empty(alloc);
-    let first = outcome(alloc, bank, kept, &[], &clause, Some(0))?;
+    let mut fronts = Fronts::new(alloc);
+    let first = outcome(alloc, bank, kept, &fronts, &clause, Some(0))?;
     let number = kept.add(empty(alloc))?;
-    let fronts = [front_of(bank, &clause)];
+    fronts.add(front_of(bank, &clause))?;
     let second = outcome(alloc, bank, kept, &fronts, &clause, Some(0))?;
     kept.cut(0);
-    let third = outcome(alloc, bank, kept, &[], &clause, None)?;
+    fronts.cut(0);
+    let third = outcome(alloc, bank, kept, &fronts, &clause, None)?;
     let as_wanted = first == Outcome::Kept && second == Outcome::Copy(number);
     Ok(as_wanted && third == Outcome::Kept && kept.clauses().is_empty())
 }

@@ -1,5 +1,3 @@
-use Rattle.std.proofs.Common.{◌∷◌, [], ◌++◌}
-use Rattle.leo_keep.proofs.CallerLemmas.{fronts-added}
 use Rattle.keep_rows.proofs.Ready.{clause-at, fronts-next}
 use Rattle.keep_rows.proofs.asking.fronts_of.Goals as goal
 
@@ -8,4 +6,4 @@ front_of-requires c = clause-at c.args.bank.now c.args.clauses.now c.requires c.
 
 pub loop-clause-preserved : goal.loop-clause-preserved
 loop-clause-preserved c =
-    rw c.in_ok-push.ensures.items (fronts-next c.args.bank.now c.args.clauses.now c.loop-clause.clause-index c.clause-item.result c.loop-clause.fronts.items c.front_of.result c.loop-clause.invariant c.loop-clause-test.true c.clause-item.is c.front_of.ensures)
+    rw c.in_ok-add.ensures.ok (fronts-next c.args.bank.now c.args.clauses.now c.loop-clause.clause-index c.clause-item.result c.loop-clause.fronts c.front_of.result c.loop-clause.invariant c.loop-clause-test.true c.clause-item.is c.front_of.ensures)

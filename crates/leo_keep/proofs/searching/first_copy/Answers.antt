@@ -4,7 +4,7 @@ use Rattle.leo_clause.specs.Trees.{ClauseTree, clause_at}
 use Rattle.leo_keep.proofs.Numbers.{get-index, none-next, refuted}
 use Rattle.leo_keep.proofs.Clauses.{least-at, none-of, typed-at}
 use Rattle.leo_keep.proofs.Fronting.{front-at, front-below}
-use Rattle.leo_keep.proofs.deciding.copied.Goals as goal
+use Rattle.leo_keep.proofs.searching.first_copy.Goals as goal
 
 pub bounds-fronts-number : goal.bounds-fronts-number
 bounds-fronts-number c = front-below c.args.bank.now c.args.kept.now c.args.fronts.now c.requires.fronts c.loop-number.number c.loop-number-test.true

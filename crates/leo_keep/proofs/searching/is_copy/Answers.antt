@@ -1,7 +1,7 @@
 use Rattle.leo_keep.proofs.Fronting.{other-clause}
 use Rattle.leo_keep.proofs.Numbers.{no}
 use Rattle.leo_keep.proofs.Clauses.{other-literals}
-use Rattle.leo_keep.proofs.deciding.is_copy.Goals as goal
+use Rattle.leo_keep.proofs.searching.is_copy.Goals as goal
 
 pub returns-then-not-may_be_copy : goal.returns-then-not-may_be_copy
 returns-then-not-may_be_copy c =

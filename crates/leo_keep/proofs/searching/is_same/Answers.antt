@@ -1,6 +1,6 @@
 use Rattle.leo_keep.proofs.Numbers.{no, refuted}
 use Rattle.leo_keep.proofs.Clauses.{other-literals, same-clauses}
-use Rattle.leo_keep.proofs.deciding.is_same.Goals as goal
+use Rattle.leo_keep.proofs.searching.is_same.Goals as goal
 
 pub returns-then-not-same_lits : goal.returns-then-not-same_lits
 returns-then-not-same_lits c =

@@ -1,5 +1,0 @@
-use Rattle.leo_keep.proofs.Numbers.{no}
-use Rattle.leo_keep.proofs.deciding.subsumes_with.Goals as goal
-
-pub returns-then-not-may_start : goal.returns-then-not-may_start
-returns-then-not-may_start c = no (c.if-not-may_start.ensures c.args.clause.now c.args.other.now c.requires.front c.requires.heads)

@@ -1,0 +1,8 @@
+use Rattle.std.proofs.Common.{map}
+use Rattle.leo_clause.specs.Trees.{ClauseTree, clause_at}
+use Rattle.leo_keep.specs.Groups.{IsLeastInGroups}
+use Rattle.leo_keep.specs.Subsumption.{Subsumes}
+use Rattle.leo_keep.proofs.searching.subsuming_target.Given as goal
+
+abbrev pub invariant-loop-place : goal.invariant-loop-place
+invariant-loop-place l = IsLeastInGroups (λ (k : ClauseTree). Subsumes k (clause_at l.bank l.target.clause.now)) (map (clause_at l.bank) l.kept) l.fronts l.groups l.place l.end l.least
