@@ -1,5 +1,6 @@
 pub mod Runs
 pub mod Books
+pub mod Origins
 pub mod Refuting
 pub mod Formulas
 pub mod CallerLemmas
