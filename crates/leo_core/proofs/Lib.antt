@@ -5,3 +5,5 @@ pub mod Refuting
 pub mod Formulas
 pub mod CallerLemmas
 pub mod Progress
+pub mod Meanings
+pub mod Named
