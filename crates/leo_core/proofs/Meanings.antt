@@ -139,7 +139,7 @@ module _ (o : Origin) (d : Declared) (v : IsVocabulary d o) where
   type-from (functions e f g) = (type-from f, type-from g)
 
   -- the types of constants
-  constants-typed : {n : ℕ} {ps : List (List ℕ × TypeTree)} {cs : List (List ℕ × Constant)} → AreConstants d n ps cs → (m : ℕ) (c : List ℕ × Constant) → slice_get cs m ≡ Some c → IsTypeFrom o c.1.type
+  pub constants-typed : {n : ℕ} {ps : List (List ℕ × TypeTree)} {cs : List (List ℕ × Constant)} → AreConstants d n ps cs → (m : ℕ) (c : List ℕ × Constant) → slice_get cs m ≡ Some c → IsTypeFrom o c.1.type
   constants-typed typings.no_more m c e = absurd cc
   constants-typed (typings.type t r) m c e = constants-typed r m c e
   constants-typed (typings.constant {n = n} {atom = word} {a = a} t f r) zero c e = (let g : (word, record { number = n; type = a }) ≡ c = cc in subst (λ (k : List ℕ × Constant). IsTypeFrom o k.1.type) g (type-from f))
