@@ -101,8 +101,8 @@ module _ (c : Contents) (source target : ClauseTree) (dues : List Due) (h : AreD
     paramodulation-from : DueMembersAddNoSymbol → DueMembersAddNoBase → (o : Origin) → IsClauseFrom o source → IsClauseFrom o target → AreLinesFrom o (map (line_at c) d.records)
     paramodulation-from no_symbol no_base o from into =
         let clause : IsClauseFrom o (member_line source target found.0).clause = clause-had o (member_line source target found.0).clause
-            (λ s none. no_symbol source target s (literals-lack o s none source.literals from.1) (literals-lack o s none target.literals into.1) n found.0 found.1.0)
-            (λ b none. no_base source target b (clause-without o b none source from) (clause-without o b none target into) n found.0 found.1.0) in
+        (λ s none. no_symbol source target s (literals-lack o s none source.literals from.1) (literals-lack o s none target.literals into.1) n found.0 found.1.0)
+        (λ b none. no_base source target b (clause-without o b none source from) (clause-without o b none target into) n found.0 found.1.0) in
         subst (AreLinesFrom o) (sym lines-are) ((clause, tt), tt)
 
     pub paramodulation-due : DueMembersAddNoSymbol → DueMembersAddNoBase → (lines : List StepRecord) (first : List ℕ) → AreFirst (map (line_at c) lines) first [] (source ∷ target ∷ []) → IsDueAt c lines first d
