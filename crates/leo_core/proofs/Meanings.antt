@@ -1,9 +1,9 @@
 -- What formulas mean has the base types and the symbols of the atoms alone.
-use Rattle.std.proofs.Common.{ℕ, zero, suc, ◌≡◌, Bool, true, false, cond, List, [], ◌∷◌, slice_get, Option, Some, None, refl, subst}
+use Rattle.std.proofs.Common.{ℕ, zero, suc, ◌≡◌, Bool, true, false, List, [], ◌∷◌, slice_get, Some, None, refl, subst}
 use Rattle.std.specs.Prelude.{if◌then◌else◌}
 use Rattle.std.specs.Str.{bytes_eq}
-use Rattle.leo_q0.specs.Terms.{SimpleType, base, arrow, truth, individual, same_type, Variable as Q0Variable, Term, variable, constant, identity, choice, apply, lambda}
-use Rattle.leo_q0.specs.Connectives.{equation, apply_two, true_term, false_term, not_term, or_term, and_term, imp_term, all_term, some_term}
+use Rattle.leo_q0.specs.Terms.{SimpleType, base, arrow, truth, same_type, Variable as Q0Variable, Term, variable, constant, identity, choice, apply, lambda}
+use Rattle.leo_q0.specs.Connectives.{true_term, false_term, not_term, or_term, and_term, imp_term, all_term, some_term}
 use Rattle.leo_syntax.specs.declared.tree.Binder.{Binder}
 use Rattle.leo_syntax.specs.declared.tree.Binder.TheVariants as binder
 use Rattle.leo_syntax.specs.declared.tree.Connective.{Connective}
@@ -16,7 +16,7 @@ use Rattle.leo_syntax.specs.declared.tree.TypeTree.{TypeTree}
 use Rattle.leo_elab.specs.declared.quantifiers.Quantifier.{Quantifier}
 use Rattle.leo_elab.specs.declared.quantifiers.Quantifier.TheVariants as quantifier
 use Rattle.leo_elab.specs.Problem.{Declared, Constant, Scope, named, outside, bound_to}
-use Rattle.leo_elab.specs.Signs.{joined, equated, bound, bound_type, quantified, quantified_type, negation_function, connective_function, applied, element}
+use Rattle.leo_elab.specs.Signs.{joined, equated, bound, bound_type, quantified, quantified_type, applied, element}
 use Rattle.leo_elab.specs.Meaning.{MeansType, individuals, truth_values, declared_type, functions, Means, atom, bound_variable, true_sign, false_sign, application, quantification, binding, negation, joining, equating, negation_sign, connective_sign, Applies, no_more, one_more, Binds, body, variable_of}
 use Rattle.leo_elab.specs.Typings.{AreConstants, AreDeclared}
 use Rattle.leo_elab.specs.Typings as typings

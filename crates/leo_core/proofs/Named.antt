@@ -1,17 +1,15 @@
 -- The hypotheses of a problem that was loaded have the base types and the symbols of its atoms alone, and so have the lines.
-use Rattle.std.proofs.Common.{ℕ, suc, ◌≡◌, true, List, [], ◌∷◌, map, take, slice_get, Option, Some, refl, sym, ap, subst, ◌+◌}
-use Rattle.leo_q0.specs.Terms.{SimpleType, Term}
-use Rattle.leo_terms.specs.Tree.{Tree, variable, bound, symbol, app, lam, logic, absent, Connective, truth, falsity, negation, disjunction, conjunction, implication, equality, universal, existential, choice}
+use Rattle.std.proofs.Common.{ℕ, ◌≡◌, true, List, [], ◌∷◌, map, slice_get, Option, Some, refl, sym, subst, ◌+◌}
+use Rattle.leo_q0.specs.Terms.{Term}
+use Rattle.leo_terms.specs.Tree.{Tree, variable, bound, symbol, app, lam, logic, absent, truth, falsity, negation, disjunction, conjunction, implication, equality, universal, existential, choice}
 use Rattle.leo_terms.specs.Typing.{IsWellTyped}
 use Rattle.leo_terms.specs.Contents.{Contents, IsBank, tree_at}
 use Rattle.leo_terms.specs.Decode.{decoded}
 use Rattle.leo_terms.proofs.CallerLemmas.{term-typed}
 use Rattle.leo_elab.specs.Problem.{Declared, Constant}
 use Rattle.leo_clausify.specs.Origins.{Origin, IsTypeFrom, IsTermFrom, AreTermsFrom}
-use Rattle.leo_kernel.specs.Steps.{Line}
 use Rattle.leo_problem.specs.declared.gathered.Kept.{Kept}
 use Rattle.leo_problem.specs.declared.loaded.Hyp.{Hyp}
-use Rattle.leo_problem.specs.declared.loaded.Problem.{Problem}
 use Rattle.leo_problem.specs.declared.roles.Role.{Role}
 use Rattle.leo_problem.specs.declared.roles.Role.TheVariants as role
 use Rattle.leo_problem.specs.Loading.{AreClosedFormulas, IsProblem, ProblemOf, hypothesis_in, theory_of}
@@ -19,9 +17,8 @@ use Rattle.leo_problem.specs.Loading as loading
 use Rattle.leo_problem.specs.Roles.{assumed}
 use Rattle.leo_problem.specs.Theories.{Answer, AreHypotheses, Hypothesis, Says, Theory, says, no_more, no_formula, formula, bad_role, second_conjecture, bad_typing, bad_formula, theory}
 use Rattle.leo_derive.specs.Verdicts.{hypotheses_of}
-use Rattle.leo_turn.specs.Origins.{AreFrom}
 use Rattle.leo_core.specs.Laws.{LoadedLinesAreNameable}
-use Rattle.leo_core.specs.Naming.{AreNameable, IsVocabulary}
+use Rattle.leo_core.specs.Naming.{IsVocabulary}
 use Rattle.leo_core.proofs.Meanings.{IsMeaningFrom, constants-typed, from-not, means-from}
 
 -- what decodes to a term from an origin is from it

@@ -17,7 +17,7 @@ use Rattle.leo_kernel.specs.Steps.{Line, line_at}
 use Rattle.leo_kernel.specs.Symbols.{HasNoVariable, LackSymbol, LacksSymbol, LinesLackSymbol}
 use Rattle.leo_clausify.specs.Choosing.{AreChoices, AreInOrder}
 use Rattle.leo_clausify.specs.Leaves.{choice_line}
-use Rattle.leo_clausify.specs.Origins.{Origin, AreChoicesFrom, IsChoiceFrom, IsTermFrom}
+use Rattle.leo_clausify.specs.Origins.{AreChoicesFrom, IsChoiceFrom, IsTermFrom}
 use Rattle.leo_clausify.proofs.Banks.{within-grow}
 use Rattle.leo_turn.specs.declared.search.Search.{Search}
 use Rattle.leo_turn.specs.Changing.{AreNew, IsAllFrom, IsAnnounced, with_choice}
