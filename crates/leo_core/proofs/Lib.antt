@@ -1,6 +1,9 @@
 pub mod Runs
 pub mod Books
+pub mod Origins
 pub mod Refuting
 pub mod Formulas
 pub mod CallerLemmas
 pub mod Progress
+pub mod Meanings
+pub mod Named

@@ -18,6 +18,7 @@ use Rattle.leo_simulation.specs.Laws.{RefutationsDeriveFalsity, BankLinesAreProp
 use Rattle.leo_derive.specs.Laws.{HasEmptyLine}
 use Rattle.leo_derive.specs.Verdicts.{IsRefutation, hypotheses_of}
 use Rattle.leo_derive.proofs.Falsity.{falsity_derived}
+use Rattle.leo_turn.specs.Origins.{AreFrom}
 use Rattle.leo_turn.specs.Searches.{HasClause, HaveClauses}
 use Rattle.leo_core.specs.declared.event.Cause.TheVariants.{Won}
 use Rattle.leo_core.specs.Machine.{HasEmptyClause, IsRefuted}
@@ -41,6 +42,9 @@ empty_line lines ns ks h e =
 module _ {p : Pages} (h : IsBook p) where
   accepted : AreAccepted (hypotheses_of p.problem) (lines_of p)
   accepted = subst (λ (ts : List Tree). AreAccepted ts (lines_of p)) (ap (map (tree_at p.problem.bank)) h.fixed.hyps_are ∙ terms_at p.problem.bank p.problem.hyps) h.search.accepted
+
+  pub book_from : AreFrom (hypotheses_of p.problem) (lines_of p)
+  book_from = subst (λ (ts : List Tree). AreFrom ts (lines_of p)) (ap (map (tree_at p.problem.bank)) h.fixed.hyps_are ∙ terms_at p.problem.bank p.problem.hyps) h.search.origin
 
   is_refuted : p.ending ≡ Some Won → IsRefuted (standing_of p).state
   is_refuted e = endings_are_right (setting_with h.run.symbols p.settings) p.settings.turns (hypotheses_of p.problem) p.journal (standing_of p) h.run.run Won e

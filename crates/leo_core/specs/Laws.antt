@@ -1,6 +1,13 @@
 -- Laws of runs.
 use Rattle.std.specs.Prelude.{ℕ, suc, ◌≡◌, ◌≤◌, List, [], ◌∷◌, ◌++◌, length, slice_get, Option, Some, None}
 use Rattle.leo_terms.specs.Tree.{Tree}
+use Rattle.leo_terms.specs.Contents.{IsBank}
+use Rattle.leo_kernel.specs.Steps.{Line}
+use Rattle.leo_problem.specs.declared.loaded.Problem.{Problem}
+use Rattle.leo_problem.specs.Loading.{IsProblem, ProblemOf, theory_of}
+use Rattle.leo_problem.specs.Theories.{says}
+use Rattle.leo_derive.specs.Verdicts.{hypotheses_of}
+use Rattle.leo_turn.specs.Origins.{AreFrom}
 use Rattle.leo_turn.specs.Turns.{Setting, State}
 use Rattle.leo_core.specs.declared.event.Cause.{Cause}
 use Rattle.leo_core.specs.declared.event.Cause.TheVariants.{Won, Limit, Exhausted, Memory}
@@ -8,6 +15,7 @@ use Rattle.leo_core.specs.declared.event.Event.{Event}
 use Rattle.leo_core.specs.declared.event.Event.TheVariants.{Ended}
 use Rattle.leo_core.specs.declared.event.Owed.{Owed}
 use Rattle.leo_core.specs.Machine.{Standing, IsOwed, IsRefuted, IsRun}
+use Rattle.leo_core.specs.Naming.{AreNameable}
 
 -- there is one thing that is owed
 pub record OwesOne (limit : ℕ) (s : Standing) : Type 0 where
@@ -38,6 +46,11 @@ EndsComeLast = (setting : Setting) (limit : ℕ) (hypotheses : List Tree) (journ
 abbrev pub EndsAreEntered : Type 0
 EndsAreEntered = (setting : Setting) (limit : ℕ) (hypotheses : List Tree) (journal : List Event) (s : Standing) → IsRun setting limit hypotheses journal s
     → (cause : Cause) → s.ending ≡ Some cause → (earlier : List Event) × (journal ≡ earlier ++ Ended cause ∷ [])
+
+-- lines that are from the hypotheses of a problem that its files say, or the generated text, are nameable by its atoms
+abbrev pub LoadedLinesAreNameable : Type 0
+LoadedLinesAreNameable = (told : List ℕ → Option (List ℕ)) (name : List ℕ) (root : Option (List ℕ)) (p : Problem) (lines : List Line) → IsBank p.bank → IsProblem p → ProblemOf told name root (says (theory_of p))
+    → AreFrom (hypotheses_of p) lines → AreNameable (theory_of p).declared lines
 
 -- what an ending says of the state: a run is won where the empty clause is kept; else it ended where its turns were as many as the limit, or else where no clause was passive; or there was no memory
 abbrev pub Says : ℕ → State → Cause → Type 0

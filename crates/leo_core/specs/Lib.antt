@@ -1,3 +1,4 @@
+pub mod Naming
 pub mod Machine
 pub mod Limits
 pub mod Books

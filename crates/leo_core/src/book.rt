@@ -8,6 +8,7 @@ ghost use Rattle.leo_kernel.specs.Steps.{line_at};
 ghost use Rattle.leo_problem.specs.Loading.{IsProblem, theory_of};
 ghost use Rattle.leo_derive.specs.Pruning.{IsPruned};
 ghost use Rattle.leo_derive.specs.Verdicts.{IsRefutation, hypotheses_of};
+ghost use Rattle.leo_turn.specs.Origins.{AreFrom};
 ghost use Rattle.leo_core.specs.declared.event.Cause.TheVariants.{Won};
 ghost use Rattle.leo_core.specs.declared.event.Owed.TheVariants as owed;
 ghost use Rattle.leo_core.specs.Books.{HasTurned, IsBook, IsNew, IsUnchanged, ended, lines_of, standing_of};
@@ -150,7 +151,8 @@ impl Book {
     }
 
     /// The derivation of a run that was won: the lines of the search on which the first empty one rests, in order and numbered
-    /// anew. They refute the problem: falsity is derivable in Q0 with choice from its hypotheses.
+    /// anew. They refute the problem: falsity is derivable in Q0 with choice from its hypotheses. Each base type in a line is
+    /// `$o` or stands in the hypotheses, and each symbol stands there or is one that the line or an earlier one abbreviates.
     ///
     /// # Errors
     ///
@@ -160,6 +162,7 @@ impl Book {
         ensures steps { IfOk result (λ found. AreStepsOf self.now.problem.bank found.items) }
         ensures pruned { IfOk result (λ found. IsPruned (lines_of self.now) (map (line_at self.now.problem.bank) found.items)) }
         ensures refutation { IfOk result (λ found. IsRefutation (hypotheses_of self.now.problem) (map (line_at self.now.problem.bank) found.items)) }
+        ensures origin { IfOk result (λ found. AreFrom (hypotheses_of self.now.problem) (map (line_at self.now.problem.bank) found.items)) }
         ensures falsity { IfOk result (λ _. Derives (map (λ h. h.formula) (theory_of self.now.problem).hypotheses) false_term) }
     {
         soundness_laws();

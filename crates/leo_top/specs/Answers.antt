@@ -24,6 +24,7 @@ use Rattle.leo_derive.specs.Verdicts.{IsRefutation, hypotheses_of}
 use Rattle.leo_core.specs.declared.event.Cause.{Cause}
 use Rattle.leo_core.specs.declared.event.Cause.TheVariants.{Won, Limit, Exhausted}
 use Rattle.leo_core.specs.declared.settings.Settings.{Settings}
+use Rattle.leo_core.specs.Naming.{AreNameable}
 use Rattle.leo_core.specs.Books.{Pages, IsBook, lines_of, standing_of}
 use Rattle.leo_tstp.specs.Derivations.{printed}
 use Rattle.leo_top.specs.declared.status.Status.{Status}
@@ -89,12 +90,15 @@ abbrev pub IsAbout : List ℕ → Option ℕ → Type 0
 IsAbout file about = MatchOption about (IsFileName file) (IsGenerator file)
 
 -- a derivation of falsity from the problem of a book: its lines are lines of the search, pruned; they are accepted, and one
--- of them is empty; so falsity is derivable in Q0 with choice from the problem's hypotheses
+-- of them is empty; so falsity is derivable in Q0 with choice from the problem's hypotheses. Where files say the problem, the lines
+-- are nameable by its atoms
 pub record IsDerivationOf (p : Pages) (steps : List StepRecord) : Type 0 where
   pub are_steps : AreStepsOf p.problem.bank steps
   pub pruned : IsPruned (lines_of p) (map (line_at p.problem.bank) steps)
   pub refutation : IsRefutation (hypotheses_of p.problem) (map (line_at p.problem.bank) steps)
   pub falsity : Derives (map (λ h. h.formula) (theory_of p.problem).hypotheses) false_term
+  pub nameable : (told : List ℕ → Option (List ℕ)) (name : List ℕ) (root : Option (List ℕ)) → ProblemOf told name root (says (theory_of p.problem))
+      → AreNameable (theory_of p.problem).declared (map (line_at p.problem.bank) steps)
 
 -- the book of a run of this theory by these settings, which ended for that cause
 pub record IsRunEnded (t : Theory) (settings : Settings) (p : Pages) (cause : Cause) : Type 0 where

@@ -18,6 +18,7 @@ use crate::running::run;
 use crate::status::Status;
 use crate::texts::{add_end, add_limit, add_opening, add_start, add_turns};
 use leo_clause::StepRecord;
+use leo_core::laws::naming_law;
 use leo_core::{Book, Cause, Settings};
 use leo_problem::{Problem, generated};
 use leo_tstp::print;
@@ -106,6 +107,7 @@ fn won(alloc: Global, file: &str, about: Option<u32>, book: &Book) -> Result<Ans
     requires bank { IsBank book.now.problem.bank }
     ensures { IfOk result (λ a. answers.IsMadeOf (answers.AnswersRun file.now book.now cause.Won a.status) a.text.items) }
 {
+    naming_law();
     let steps = book.derivation(alloc)?;
     let problem = book.problem();
     let status = refuted_status(problem.conjecture);

@@ -25,6 +25,7 @@ use Rattle.leo_turn.specs.Starting.{IsAssumed, empty_search}
 use Rattle.leo_turn.specs.Turns.{AreFormulas, AreKnown, IsFixed, IsFormula, IsStart, Setting, Stock, TakesEach, none_left, TakesIn, no_stock, state_of, stock_of}
 use Rattle.leo_turn.proofs.Growing.{grows-itself, grows-trans}
 use Rattle.leo_turn.proofs.Lists.{get-last, get-map, get-within, length-map, longer-pushed, take-next}
+use Rattle.leo_turn.proofs.Origins.{assumed-from, from-next, none-from, term-at}
 use Rattle.leo_turn.proofs.Passives.{entries-came}
 use Rattle.leo_turn.proofs.Valid.{accepted-added, hypotheses-same, search-grow, search-lines, steps-added}
 use Rattle.leo_turn.proofs.Worked.{each-added, known-choices, stock-same}
@@ -70,7 +71,7 @@ module _ {b c : Contents} (e : Extends b c) (s : Search) (h : IsSearch b s) wher
       let accepts : Accepts (hypotheses_of c s) (lines_of c s) (record { clause = assumed (tree_at b t); rule = assume n }) = accepts-assumed (hypotheses_of c s) (lines_of c s) n (tree_at b t) there within formula.closed typed in
       let count : length (lines_of c s) ≡ length s.lines = length-map (line_at c) s.lines in
       record {
-        search = search-lines c s (s.lines ++ r ∷ []) valid (longer-pushed r refl) (steps-added c s.lines r valid.steps step) (rw more (accepted-added (hypotheses_of c s) (lines_of c s) (record { clause = assumed (tree_at b t); rule = assume n }) valid.accepted accepts));
+        search = search-lines c s (s.lines ++ r ∷ []) valid (longer-pushed r refl) (steps-added c s.lines r valid.steps step) (rw more (accepted-added (hypotheses_of c s) (lines_of c s) (record { clause = assumed (tree_at b t); rule = assume n }) valid.accepted accepts)) (rw more (from-next (hypotheses_of c s) (lines_of c s) (record { clause = assumed (tree_at b t); rule = assume n }) valid.origin (λ o g. (assumed-from o (tree_at b t) (term-at o (hypotheses_of c s) n (tree_at b t) g.hypotheses_from there), tt))));
         clause = record { line = record { clause = assumed (tree_at b t); rule = assume n }; stands = rw more (subst (λ m. slice_get (lines_of c s ++ record { clause = assumed (tree_at b t); rule = assume n } ∷ []) m ≡ Some (record { clause = assumed (tree_at b t); rule = assume n })) count (get-last (lines_of c s) (record { clause = assumed (tree_at b t); rule = assume n }))); clause_is = refl };
         stock = stock-same e s h;
       }
@@ -116,6 +117,7 @@ search-empty c hyps depth weight h = record {
   hypotheses = formulas-terms c hyps h;
   steps = λ n s g. absurd (nothing n s g);
   accepted = λ n s g. absurd (nothing n s g);
+  origin = none-from (hypotheses_of c (empty_search hyps depth weight));
   choices = record { of_bank = λ n k g. absurd (nothing n k g); choices = record { distinct = λ m n j k f g. absurd (nothing m j f); closed = λ n k g. absurd (nothing n k g); lacking = λ m n j k f g l. absurd (nothing m j f) } };
   choice_lines = tt;
   rising = tt;

@@ -16,6 +16,7 @@ use Rattle.leo_kernel.specs.Steps.{Line, convert, clause_in, clause_of, line_at}
 use Rattle.leo_kernel.specs.Records.{IsStepOf}
 use Rattle.leo_kernel.proofs.Growing.{types-grow, types-kept}
 use Rattle.leo_clausify.specs.Literals.{AreLiterals}
+use Rattle.leo_clausify.specs.Origins.{Origin, IsLineFrom}
 use Rattle.leo_clausify.specs.Splitting.{AreNormal, normal_literal}
 use Rattle.leo_clausify.proofs.Banks.{literals-well}
 use Rattle.leo_clausify.proofs.Following.{AreWell, normals-typed}
@@ -23,8 +24,10 @@ use Rattle.leo_clausify.proofs.Reducts.{normal-twice}
 use Rattle.leo_turn.specs.declared.search.Search.{Search}
 use Rattle.leo_turn.specs.Changing.{IsClauseIn, IsConverted, with_lines}
 use Rattle.leo_turn.specs.Intakes.{normal_clause}
+use Rattle.leo_turn.specs.Origins.{IsOriginOf}
 use Rattle.leo_turn.specs.Searches.{IsSearch, hypotheses_of, lines_of}
 use Rattle.leo_turn.proofs.Lists.{get-map, get-within}
+use Rattle.leo_turn.proofs.Origins.{all-from, from-next, line-at, normal-from}
 use Rattle.leo_turn.proofs.Valid.{accepted-added, hypotheses-same, lines-same, search-grow, search-lines, steps-added}
 
 pub clause-made : {c d : Contents} → Extends c d → (k : Clause) (vars : List ℕ) (lits source : List Lit) → IsClauseOf c k → vars ≡ k.vars → source ≡ k.lits → AreLiterals d lits (map normal_literal (map (literal_at c) source)) → IsClauseIn d (record { vars = vars; lits = lits }) (normal_clause (clause_at c k))
@@ -65,9 +68,11 @@ line-converted {b} {c} e s line r k h stands made =
     let step : IsStepOf c new = record { clause_of = made.of_bank; terms_of = tt } in
     let later : IsSearch c s = search-grow e s h in
     let accepted : Accepts (hypotheses_of c s) (lines_of c s) (record { clause = normal_clause (clause_at b r.clause); rule = convert line }) = rw (hypotheses-same e s h, lines-same e s h) (converted (hypotheses_of b s) (lines_of b s) line (clause_at b r.clause) within is typed well) in
+    let there : slice_get (lines_of c s) line ≡ Some (line_at b r) = rw (lines-same e s h) get in
+    let origin : (o : Origin) → IsOriginOf (hypotheses_of c s) (lines_of c s) o → IsLineFrom o (record { clause = normal_clause (clause_at b r.clause); rule = convert line }) = λ o g. (normal-from o g.truth (clause_at b r.clause) (line-at o (lines_of c s) line (line_at b r) (all-from (lines_of c s) later.origin g) there).0, tt) in
     let more : map (line_at c) (s.lines ++ new ∷ []) ≡ lines_of c s ++ record { clause = normal_clause (clause_at b r.clause); rule = convert line } ∷ [] = map-append (line_at c) s.lines (new ∷ []) ∙ rw made.reads refl in
     record {
-      search = search-lines c s (s.lines ++ new ∷ []) later (record { more = new ∷ []; is = refl }) (steps-added c s.lines new later.steps step) (rw more (accepted-added (hypotheses_of c s) (lines_of c s) (record { clause = normal_clause (clause_at b r.clause); rule = convert line }) later.accepted accepted));
+      search = search-lines c s (s.lines ++ new ∷ []) later (record { more = new ∷ []; is = refl }) (steps-added c s.lines new later.steps step) (rw more (accepted-added (hypotheses_of c s) (lines_of c s) (record { clause = normal_clause (clause_at b r.clause); rule = convert line }) later.accepted accepted)) (rw more (from-next (hypotheses_of c s) (lines_of c s) (record { clause = normal_clause (clause_at b r.clause); rule = convert line }) later.origin origin));
       typed = record { of_bank = made.of_bank; typed = subst IsTyped (sym made.reads) (normals-typed (clause_at b r.clause).variables (map (literal_at b) r.clause.lits) well typed) };
       reads = made.reads ∙ ap normal_clause (sym is);
       normal = subst (λ (t : ClauseTree). AreNormal t.literals) (sym made.reads) (are-normal (map (literal_at b) r.clause.lits) well);

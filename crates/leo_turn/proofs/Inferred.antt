@@ -8,6 +8,7 @@ use Rattle.leo_clause.specs.Trees.{ClauseTree, clause_at}
 use Rattle.leo_kernel.proofs.Growing.{clause-kept}
 use Rattle.leo_para.specs.declared.member.Due.{Due}
 use Rattle.leo_para.specs.Dues.{AreDue}
+use Rattle.leo_para.specs.Laws.{DueMembersAddNoBase, DueMembersAddNoSymbol}
 use Rattle.leo_turn.specs.declared.search.Search.{Search}
 use Rattle.leo_turn.specs.Growth.{Grows, IsLonger}
 use Rattle.leo_turn.specs.Searches.{AreAllBelow, IsSearch, kept_of}
@@ -23,12 +24,12 @@ use Rattle.leo_turn.proofs.Worked.{setting-same, stock-same}
 -- from one kept clause into another
 module _ {c d : Contents} (e : Extends c d) (s : Search) (i j m n : ℕ) (p q : Clause) (dues : List Due)
     (h : IsSearch c s) (first : slice_get s.kept i ≡ Some p) (second : slice_get s.kept j ≡ Some q) (due : AreDue d (clause_at c p) (clause_at c q) dues) where
-  pub between-due : slice_get s.at i ≡ Some m → slice_get s.at j ≡ Some n → AreDueAt d s.lines (m ∷ n ∷ []) dues
-  between-due f g k x there =
+  pub between-due : DueMembersAddNoSymbol → DueMembersAddNoBase → slice_get s.at i ≡ Some m → slice_get s.at j ≡ Some n → AreDueAt d s.lines (m ∷ n ∷ []) dues
+  between-due no_symbol no_base f g k x there =
       let later : IsSearch d s = search-grow e s h in
       let one : clause_at d p ≡ clause_at c p = clause-kept e p (kept-typed c s i p h first).of_bank in
       let two : clause_at d q ≡ clause_at c q = clause-kept e q (kept-typed c s j q h second).of_bank in
-      paramodulation-due d (clause_at c p) (clause_at c q) dues due k x there s.lines (m ∷ n ∷ []) (record {
+      paramodulation-due d (clause_at c p) (clause_at c q) dues due k x there no_symbol no_base s.lines (m ∷ n ∷ []) (record {
         symbols = [];
         parents = m ∷ n ∷ [];
         numbers_are = refl;

@@ -1,5 +1,5 @@
 -- The lines that introduce choice symbols.
-use Rattle.std.proofs.Common.{ℕ, zero, suc, ◌≡◌, ◌∙◌, ◌+◌, ◌≤◌, true, List, [], ◌∷◌, ◌++◌, length, map, take, slice_get, Some, refl, sym, ap, subst, arith}
+use Rattle.std.proofs.Common.{ℕ, zero, suc, ◌≡◌, ◌∙◌, ◌+◌, ◌<◌, ◌≤◌, true, List, [], ◌∷◌, ◌++◌, length, map, take, slice_get, Some, refl, sym, ap, subst, arith}
 use Rattle.std.proofs.lemmas.List.{length-append, map-append, take-map}
 use Rattle.leo_q0.specs.Terms.{SimpleType}
 use Rattle.leo_terms.specs.Contents.{Contents, Extends, IsTerm, symbol_type, tree_at, type_at}
@@ -17,13 +17,16 @@ use Rattle.leo_kernel.specs.Steps.{Line, line_at}
 use Rattle.leo_kernel.specs.Symbols.{HasNoVariable, LackSymbol, LacksSymbol, LinesLackSymbol}
 use Rattle.leo_clausify.specs.Choosing.{AreChoices, AreInOrder}
 use Rattle.leo_clausify.specs.Leaves.{choice_line}
+use Rattle.leo_clausify.specs.Origins.{AreChoicesFrom, IsChoiceFrom, IsTermFrom}
 use Rattle.leo_clausify.proofs.Banks.{within-grow}
 use Rattle.leo_turn.specs.declared.search.Search.{Search}
-use Rattle.leo_turn.specs.Changing.{AreNew, IsAnnounced, with_choice}
+use Rattle.leo_turn.specs.Changing.{AreNew, IsAllFrom, IsAnnounced, with_choice}
 use Rattle.leo_turn.specs.Growth.{Grows, IsLonger}
-use Rattle.leo_turn.specs.Searches.{IsSearch, hypotheses_of, lines_of}
+use Rattle.leo_turn.specs.Origins.{IsOriginOf}
+use Rattle.leo_turn.specs.Searches.{IsSearch, choices_of, hypotheses_of, lines_of}
 use Rattle.leo_turn.proofs.Growing.{grows-itself, grows-trans}
 use Rattle.leo_turn.proofs.Lists.{get-map, take-next, get-last, longer-cut, longer-itself, longer-length}
+use Rattle.leo_turn.proofs.Origins.{all-from, choices-there, origin-shorter}
 use Rattle.leo_turn.proofs.Valid.{hypotheses-same, lines-same, order-grow, search-choice, search-grow}
 
 -- the line of a symbol, in a bank that grew
@@ -66,8 +69,8 @@ choice-accepted hypotheses lines k closed own first second = record {
 }
 
 -- one symbol
-pub announced : {c d : Contents} → Extends c d → (s : Search) (line : StepRecord) (item : ℕ × ℕ) → IsSearch c s → AreInOrder c (s.abbr.items ++ item ∷ []) → LackSymbol item.0 (hypotheses_of c s) → LinesLackSymbol item.0 (lines_of c s) → line_at d line ≡ choice_line (choice_at c item) → IsStepOf d line → IsAnnounced d s (with_choice s line item) item
-announced {c} {d} e s line item h order first second reads step =
+pub announced : {c d : Contents} → Extends c d → (s : Search) (line : StepRecord) (item : ℕ × ℕ) → IsSearch c s → AreInOrder c (s.abbr.items ++ item ∷ []) → LackSymbol item.0 (hypotheses_of c s) → LinesLackSymbol item.0 (lines_of c s) → IsAllFrom (hypotheses_of c s) (lines_of c s) (tree_at c item.1) → line_at d line ≡ choice_line (choice_at c item) → IsStepOf d line → IsAnnounced d s (with_choice s line item) item
+announced {c} {d} e s line item h order first second from reads step =
     let n : slice_get (s.abbr.items ++ item ∷ []) (length s.abbr.items) ≡ Some item = get-last s.abbr.items item in
     let w = (order.of_bank (length s.abbr.items) item n).term_within in
     let same : choice_at d item ≡ choice_at c item = rw (tree-kept e item.1 w) refl in
@@ -77,10 +80,11 @@ announced {c} {d} e s line item h order first second reads step =
     let closed : IsOver [] 0 (tree_at c item.1) = order.choices.closed (length s.abbr.items) (choice_at c item) g in
     let own : LacksSymbol item.0 (tree_at c item.1) = order.choices.lacking (length s.abbr.items) (length s.abbr.items) (choice_at c item) (choice_at c item) g g (omega arith) in
     let a : Accepts (hypotheses_of d s) (lines_of d s) (choice_line (choice_at d item)) = subst (λ (j : Choice). Accepts (hypotheses_of d s) (lines_of d s) (choice_line j)) (sym same) (rw (hypotheses-same e s h, lines-same e s h) (choice-accepted (hypotheses_of c s) (lines_of c s) (choice_at c item) closed own first second)) in
+    let origin : IsAllFrom (hypotheses_of d s) (lines_of d s) (tree_at d item.1) = rw (hypotheses-same e s h, lines-same e s h, tree-kept e item.1 w) from in
     record {
       line = line;
       line_is = is;
-      search = search-choice d s line item (search-grow e s h) later step is a;
+      search = search-choice d s line item (search-grow e s h) later step is a origin;
       new_is = refl;
     }
 
@@ -117,6 +121,12 @@ take-length zero xs h = refl
 take-length (suc n) [] h = absurd (let f : ⊥ = omega arith in f)
 take-length (suc n) (x ∷ xs) h = ap suc (take-length n xs (omega arith))
 
+take-get : {X : Type 0} (n : ℕ) (xs : List X) (m : ℕ) (x : X) → m < n → slice_get xs m ≡ Some x → slice_get (take n xs) m ≡ Some x
+take-get zero xs m x l e = absurd (let f : ⊥ = omega arith in f)
+take-get (suc n) [] m x l e = e
+take-get (suc n) (y ∷ xs) zero x l e = e
+take-get (suc n) (y ∷ xs) (suc m) x l e = take-get n xs m x (omega arith) e
+
 -- the first i of the items were introduced
 pub record AreIntroduced (c : Contents) (old s : Search) (items : List (ℕ × ℕ)) (i : ℕ) : Type 0 where
   pub search : IsSearch c s
@@ -143,6 +153,15 @@ module _ (c : Contents) (old s : Search) (items : List (ℕ × ℕ)) (i : ℕ) (
   pub introduced-hypotheses : LackSymbol item.0 (hypotheses_of c s)
   introduced-hypotheses = h.new.hypotheses_lack i item g (let e = count in omega arith)
 
+  pub introduced-from : IsAllFrom (hypotheses_of c s) (lines_of c s) (tree_at c item.1)
+  introduced-from o f = h.new.terms_from i item g (let e = count in omega arith) o f (λ m j l at. there m j (choices-there o (lines_of c s) s.abbr_at (choices_of c s) (all-from (lines_of c s) h.search.origin f) h.search.choice_lines) (get-cut i m j l at))
+    where
+      there : (m : ℕ) (j : ℕ × ℕ) → AreChoicesFrom o (choices_of c s) → slice_get (take i items) m ≡ Some j → IsChoiceFrom o (choice_at c j)
+      there m j all at = all m (choice_at c j) (get-map (choice_at c) s.abbr.items m j (subst (λ (ks : List (ℕ × ℕ)). slice_get ks m ≡ Some j) (sym h.abbr) at))
+
+      get-cut : (n m : ℕ) (j : ℕ × ℕ) → m < n → slice_get items m ≡ Some j → slice_get (take n items) m ≡ Some j
+      get-cut n m j l at = take-get n items m j l at
+
   pub introduced-lines : LinesLackSymbol item.0 (lines_of c s)
   introduced-lines = h.new.lines_lack i item g (let e = count in omega arith)
 
@@ -160,6 +179,8 @@ module _ (c : Contents) (old s : Search) (items : List (ℕ × ℕ)) (i : ℕ) (
       let items_are : new.abbr.items ≡ s.abbr.items ++ item ∷ [] = ap (λ (t : Search). t.abbr.items) a.new_is in
       let many : length new.abbr.items ≡ i + 1 = (let x : length (s.abbr.items ++ item ∷ []) ≡ length s.abbr.items + 1 = length-append s.abbr.items (item ∷ []) in ap length items_are ∙ x ∙ ap (λ n. n + 1) count) in
       let mine : slice_get (map (choice_at c) items) i ≡ Some (choice_at c item) = get-map (choice_at c) items i item g in
+      let kept : (n : ℕ) (k : ℕ × ℕ) → slice_get items n ≡ Some k → tree_at d k.1 ≡ tree_at c k.1 = λ n k f. tree-kept e k.1 (h.order.of_bank n k f).term_within in
+      let kept-choice : (n : ℕ) (k : ℕ × ℕ) → slice_get items n ≡ Some k → choice_at d k ≡ choice_at c k = λ n k f. rw (tree-kept e k.1 (h.order.of_bank n k f).term_within) refl in
       record {
         search = a.search;
         order = order-grow e items h.order;
@@ -171,6 +192,10 @@ module _ (c : Contents) (old s : Search) (items : List (ℕ × ℕ)) (i : ℕ) (
               let other : item.0 ≡ k.0 → ⊥ = λ x. (let y : i ≡ n = h.order.choices.distinct i n (choice_at c item) (choice_at c k) mine theirs x in omega (arith, y, l, many)) in
               let lacks : LacksSymbol k.0 (tree_at c item.1) = h.order.choices.lacking i n (choice_at c item) (choice_at c k) mine theirs (omega (arith, l, many)) in
               subst (LinesLackSymbol k.0) (sym lines) (lack-more k.0 (lines_of c s) (choice_at c item) (h.new.lines_lack n k f (let x = count in omega (arith, x, l, many))) other lacks);
+          terms_from = λ n k f l o from before.
+              let longer : IsLonger (lines_of c s) (lines_of d new) = record { more = choice_line (choice_at c item) ∷ []; is = lines } in
+              let earlier : IsOriginOf (hypotheses_of c s) (lines_of c s) o = origin-shorter longer (subst (λ (hs : List Tree). IsOriginOf hs (lines_of d new) o) hyps from) in
+              subst (IsTermFrom o) (sym (kept n k f)) (h.new.terms_from n k f (let x = count in omega (arith, x, l, many)) o earlier (λ m j u at. subst (IsChoiceFrom o) (kept-choice m j at) (before m j u at)));
         };
         kept = ap (λ (t : Search). t.kept) a.new_is ∙ h.kept;
         grows = grows-trans h.grows grows;

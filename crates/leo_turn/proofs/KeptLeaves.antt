@@ -11,17 +11,19 @@ use Rattle.leo_kernel.specs.Steps.{Line, line_at}
 use Rattle.leo_kernel.specs.Symbols.{abbreviation_at}
 use Rattle.leo_clausify.specs.declared.leaves.Leaf.{Leaf}
 use Rattle.leo_clausify.specs.Leaves.{IsLeafOf, leaf_clause}
+use Rattle.leo_clausify.specs.Origins.{AreLinesFrom}
 use Rattle.leo_keep.specs.declared.outcomes.Outcome.TheVariants as outcome
 use Rattle.leo_keep.specs.declared.fronts.Front.{Front}
 use Rattle.leo_keep.specs.Fronts.{IsFront}
 use Rattle.leo_keep.specs.Outcomes.{OutcomeOf}
 use Rattle.leo_turn.specs.declared.search.Search.{Search}
-use Rattle.leo_turn.specs.Changing.{AreAppended, AreLeavesOf, AreReady, IsKept, IsLeafAt, HasSameSymbols, with_clause, with_lines}
+use Rattle.leo_turn.specs.Changing.{AreAllFrom, AreAppended, AreLeavesOf, AreReady, IsKept, IsLeafAt, HasSameSymbols, with_clause, with_lines}
 use Rattle.leo_turn.specs.Growth.{Grows, IsLonger}
 use Rattle.leo_turn.specs.Intakes.{Takes, added, TakesAll, none_left, next}
 use Rattle.leo_turn.specs.Searches.{HasClause, IsSearch, choices_of, hypotheses_of, kept_of, lines_of, passive_weight}
 use Rattle.leo_turn.proofs.Growing.{grows-itself, grows-trans}
 use Rattle.leo_turn.proofs.Lists.{stands-at, take-next, get-front_same, get-within, longer-itself, longer-map, longer-trans}
+use Rattle.leo_turn.proofs.Origins.{all-from, choices-there, clause-from}
 use Rattle.leo_turn.proofs.Valid.{clause-longer, search-clause, search-lines}
 
 pub leaf-ready : (c : Contents) (s : Search) (n : ℕ) (leaf : Leaf) → IsSearch c s → IsLeafAt c s n leaf → AreReady c s.lines (s.abbr_at ++ n ∷ []) leaf.records
@@ -34,9 +36,15 @@ leaf-ready c s n leaf h l = record {
   accepted = l.leaf_of.accepted;
 }
 
+-- each base type in the records is `$o` or stands in the lines, and each symbol stands there
+leaf-from : (c : Contents) (s : Search) (n : ℕ) (leaf : Leaf) → IsSearch c s → IsLeafAt c s n leaf → AreAllFrom (hypotheses_of c s) (lines_of c s) (map (line_at c) leaf.records)
+leaf-from c s n leaf h l o g =
+    let all : AreLinesFrom o (lines_of c s) = all-from (lines_of c s) h.origin g in
+    l.leaf_of.origin o g.truth (clause-from o (lines_of c s) n l.start all l.clause) (choices-there o (lines_of c s) s.abbr_at (choices_of c s) all h.choice_lines)
+
 pub kept-leaf : (c : Contents) (s : Search) (n w : ℕ) (leaf : Leaf) (f : Option Front) (lines : List StepRecord) → IsSearch c s → IsFront c leaf.clause f → length s.kept < 200000 → IsLeafAt c s n leaf → AreAppended c leaf.records s.lines lines → IsLonger s.lines lines → w ≡ passive_weight (clause_at c leaf.clause) → IsKept c s (with_clause (with_lines s lines) leaf.clause f (length lines - 1) w) leaf
 kept-leaf c s n w leaf f lines h front few l a longer weight =
-    let valid : IsSearch c (with_lines s lines) = search-lines c s lines h longer (a.steps h.steps) (a.accepted (hypotheses_of c s) h.accepted) in
+    let valid : IsSearch c (with_lines s lines) = search-lines c s lines h longer (a.steps h.steps) (a.accepted (hypotheses_of c s) h.accepted) (a.origin (hypotheses_of c s) h.origin (leaf-from c s n leaf h l)) in
     let line : HasClause (map (line_at c) lines) (length lines - 1) (clause_at c leaf.clause) = subst (HasClause (map (line_at c) lines) (length lines - 1)) l.leaf_of.ends (a.ends l.start l.leaf_of.some) in
     record {
       search = search-clause c (with_lines s lines) leaf.clause f (length lines - 1) w valid few l.leaf_of.typed front l.leaf_of.normal line (a.plain l.leaf_of.some) weight;

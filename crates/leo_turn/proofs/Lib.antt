@@ -1,5 +1,8 @@
 mod Lists
 mod Growing
+pub mod Origins
+mod SameOrigins
+mod Lacking
 mod Valid
 mod Numbering
 mod Converting

@@ -16,14 +16,18 @@ use Rattle.leo_kernel.specs.Records.{IsStepOf, AreStepsOf}
 use Rattle.leo_kernel.specs.Steps.{StepRule, assume, convert, inst, para, arrange, drop_literal, take_apart, bool_ext, func_ext, decompose, reflexivity, choose, factor, abbreviate, Line, line_at, rule_at, clause_in}
 use Rattle.leo_kernel.specs.Symbols.{HasSymbol, LackSymbol, LinesLackSymbol, LiteralsLackSymbol, RuleLacksSymbol, abbreviation_at, abbreviation_in, abbreviation_of}
 use Rattle.leo_clausify.specs.Leaves.{choice_line, last_clause}
+use Rattle.leo_clausify.specs.Origins.{Origin, IsLineFrom}
 use Rattle.leo_derive.specs.Marking.{AreNumbersBelow}
 use Rattle.leo_derive.specs.Pruning.{numbered_line}
 use Rattle.leo_derive.specs.Resting.{if_named, named}
 use Rattle.leo_derive.proofs.Renumbered.{IsSameLine, same_line, numbered_accepted}
-use Rattle.leo_turn.specs.Changing.{AreReady, AreSame, IsAppended, IsSame, lines_before}
+use Rattle.leo_turn.specs.Changing.{AreAllFrom, AreReady, AreSame, IsAppended, IsSame, lines_before}
 use Rattle.leo_turn.specs.Growth.{IsLonger}
+use Rattle.leo_turn.specs.Origins.{AreFrom, IsOriginOf}
 use Rattle.leo_turn.specs.Searches.{ArePlain, HasClause, HaveChoices, HaveClauses}
-use Rattle.leo_turn.proofs.Lists.{below-last, get-map, get-within, stands-at, take-next, get-front_same, get-last, length-map, longer-itself, longer-trans}
+use Rattle.leo_turn.proofs.Lists.{below-last, get-map, get-within, stands-at, take-next, get-front_same, get-last, length-map, longer-itself, longer-map, longer-trans}
+use Rattle.leo_turn.proofs.Origins.{from-next, line-numbered, origin-shorter}
+use Rattle.leo_turn.proofs.Origins as origins
 use Rattle.leo_turn.proofs.Valid.{accepted-added, steps-added}
 
 -- the lines that a rule names are there
@@ -251,6 +255,7 @@ pub record IsOnWay (c : Contents) (old lines : List StepRecord) (numbers : List 
   pub longer : IsLonger old lines
   pub steps : AreStepsOf c old → AreStepsOf c lines
   pub accepted : (hypotheses : List Tree) → AreAccepted hypotheses (map (line_at c) old) → AreAccepted hypotheses (map (line_at c) lines)
+  pub origin : (hypotheses : List Tree) → AreFrom hypotheses (map (line_at c) old) → AreAllFrom hypotheses (map (line_at c) old) (map (line_at c) records) → AreFrom hypotheses (map (line_at c) lines)
   pub same : (sigma : List Tree) → AreSame (lines_before choices clauses (inst 0 sigma) ++ take i (map (line_at c) records)) (map (line_at c) lines) numbers
   pub ends : (k : ClauseTree) → 0 < i → HasClause (map (line_at c) lines) (length lines - 1) (last_clause k (take i (map (line_at c) records)))
   pub plain : 0 < i → abbreviation_of (map (line_at c) lines) (length lines - 1) ≡ None
@@ -265,6 +270,7 @@ way-first c old numbers records r = record {
   longer = longer-itself old;
   steps = λ h. h;
   accepted = λ hs h. h;
+  origin = λ hs h from. h;
   same = λ sigma. subst (λ ls. AreSame ls (map (line_at c) old) numbers) (sym (append-nil (lines_before r.choices r.clauses (inst 0 sigma)))) (subst (AreSame (lines_before r.choices r.clauses (inst 0 sigma)) (map (line_at c) old)) (sym r.first.numbers_are) (record {
     as_many = first-many (map (line_at c) old) sigma r.first.parents r.clauses r.first.clause_lines r.first.plain r.first.symbols r.choices r.first.choice_lines;
     same = first-same (map (line_at c) old) sigma r.first.parents r.clauses r.first.clause_lines r.first.plain r.first.symbols r.choices r.first.choice_lines;
@@ -322,6 +328,10 @@ module _ (c : Contents) (old lines : List StepRecord) (numbers : List ℕ) (reco
         longer = longer-trans w.longer (record { more = a.record_of ∷ []; is = a.appended });
         steps = λ h. subst (AreStepsOf c) (sym a.appended) (steps-added c lines a.record_of (w.steps h) a.step);
         accepted = λ hs h. subst (AreAccepted hs) (sym read) (accepted-added hs (map (line_at c) lines) (numbered_line (λ n. get_or numbers n 0) (line_at c r)) (w.accepted hs h) (numbered hs));
+        origin = λ hs h from.
+            let new : Line = numbered_line (λ n. get_or numbers n 0) (line_at c r) in
+            let its : (o : Origin) → IsOriginOf hs (map (line_at c) lines) o → IsLineFrom o new = λ o g. line-numbered o (λ n. get_or numbers n 0) (line_at c r) (origins.line-at o (map (line_at c) records) i (line_at c r) (from o (origin-shorter (longer-map (line_at c) w.longer) g)) get) in
+            subst (AreFrom hs) (sym read) (from-next hs (map (line_at c) lines) new (w.origin hs h from) its);
         same = λ sigma.
             let n = same-next (before sigma) (map (line_at c) lines) numbers (λ n. get_or numbers n 0) (line_at c r) (w.same sigma) in
             let e : before sigma ++ line_at c r ∷ [] ≡ lines_before w.choices w.clauses (inst 0 sigma) ++ take (i + 1) (map (line_at c) records) = append_assoc (lines_before w.choices w.clauses (inst 0 sigma)) (take i (map (line_at c) records)) (line_at c r ∷ []) ∙ ap (λ (ls : List Line). lines_before w.choices w.clauses (inst 0 sigma) ++ ls) (sym done) in

@@ -11,13 +11,17 @@ use Rattle.leo_kernel.specs.Places.{replaced_in, shifted, shifted_literal}
 use Rattle.leo_kernel.specs.Shapes.{other_side_of, side_of, unequal}
 use Rattle.leo_kernel.specs.Steps.{Line, convert, line_at}
 use Rattle.leo_clausify.specs.Leaves.{last_clause}
+use Rattle.leo_clausify.specs.Origins.{Origin, IsClauseFrom, AreClausesFrom, AreLinesFrom}
 use Rattle.leo_conclude.specs.Leaving.{AreConstraints, AreNumbersOf}
 use Rattle.leo_para.specs.declared.member.Due.{Due}
+use Rattle.leo_para.specs.Laws.{DueMembersAddNoBase, DueMembersAddNoSymbol}
 use Rattle.leo_para.specs.Dues.{AreDue, Inference, inference_at, inference_of}
 use Rattle.leo_para.specs.Members.{Member, due_members, member_line, solved_literal}
 use Rattle.leo_turn.specs.Changing.{AreFirst}
 use Rattle.leo_turn.specs.Turns.{Constrained, of_paramodulation}
 use Rattle.leo_turn.specs.Working.{IsDueAt, constrained_at, no_clause}
+use Rattle.leo_turn.proofs.Lacking.{clause-had, clause-without, literals-lack}
+use Rattle.leo_turn.proofs.Origins.{clauses-from}
 use Rattle.leo_turn.proofs.Lists.{get-last, get-made, get-map, get-within, length-map, map-fused, some-same}
 
 taken-out : {X : Type 0} (xs : List X) (i : ℕ) → i < length xs → suc (length (take i xs ++ ([] ++ drop (suc i) xs))) ≡ length xs
@@ -94,8 +98,15 @@ module _ (c : Contents) (source target : ClauseTree) (dues : List Due) (h : AreD
         let p = ((h.each n d g).accepted (convert 0) (convert 0) 0 (member_line source target found.0) get).literals in
         paramodulant-ends source target found.0 p.0 p.1
 
-    pub paramodulation-due : (lines : List StepRecord) (first : List ℕ) → AreFirst (map (line_at c) lines) first [] (source ∷ target ∷ []) → IsDueAt c lines first d
-    paramodulation-due lines first f = record {
+    paramodulation-from : DueMembersAddNoSymbol → DueMembersAddNoBase → (o : Origin) → IsClauseFrom o source → IsClauseFrom o target → AreLinesFrom o (map (line_at c) d.records)
+    paramodulation-from no_symbol no_base o from into =
+        let clause : IsClauseFrom o (member_line source target found.0).clause = clause-had o (member_line source target found.0).clause
+        (λ s none. no_symbol source target s (literals-lack o s none source.literals from.1) (literals-lack o s none target.literals into.1) n found.0 found.1.0)
+        (λ b none. no_base source target b (clause-without o b none source from) (clause-without o b none target into) n found.0 found.1.0) in
+        subst (AreLinesFrom o) (sym lines-are) ((clause, tt), tt)
+
+    pub paramodulation-due : DueMembersAddNoSymbol → DueMembersAddNoBase → (lines : List StepRecord) (first : List ℕ) → AreFirst (map (line_at c) lines) first [] (source ∷ target ∷ []) → IsDueAt c lines first d
+    paramodulation-due no_symbol no_base lines first f = record {
       ready = record {
         choices = [];
         clauses = source ∷ target ∷ [];
@@ -104,6 +115,7 @@ module _ (c : Contents) (source target : ClauseTree) (dues : List Due) (h : AreD
         steps = (h.each n d g).steps;
         accepted = λ rule. (h.each n d g).accepted rule rule;
       };
+      origin = λ o z from. (let clauses : AreClausesFrom o (source ∷ target ∷ []) = clauses-from o (map (line_at c) lines) f.parents (source ∷ target ∷ []) from f.clause_lines in paramodulation-from no_symbol no_base o clauses.0 clauses.1.0);
       some = some-there;
       numbers = subst (λ (k : ClauseTree). AreNumbersOf k.literals d.pairs) (sym clause-is) (subst (AreNumbersOf (member_line source target found.0).clause.literals) (sym pairs-are) parts.0);
       constraints = subst (λ (k : ClauseTree). AreConstraints k.literals d.pairs) (sym clause-is) (subst (AreConstraints (member_line source target found.0).clause.literals) (sym pairs-are) parts.1);

@@ -1,5 +1,5 @@
 -- What is kept of a clause that is taken in.
-use Rattle.std.proofs.Common.{ℕ, zero, suc, ◌≡◌, ◌∙◌, ◌≤◌, List, [], ◌∷◌, ◌++◌, length, map, slice_get, Option, Some, None, refl, sym, ap, subst, arith}
+use Rattle.std.proofs.Common.{ℕ, zero, suc, ◌≡◌, ◌∙◌, ◌<◌, ◌≤◌, List, [], ◌∷◌, ◌++◌, length, map, slice_get, Option, Some, None, refl, sym, ap, subst, arith}
 use Rattle.std.proofs.lemmas.List.{map-append}
 use Rattle.leo_terms.specs.Contents.{Contents, IsBank, Extends, AreTerms, tree_at}
 use Rattle.leo_terms.proofs.CallerLemmas.{extends-trans, old_bank}
@@ -21,17 +21,20 @@ use Rattle.leo_kernel.proofs.LinesGrowing.{lines-grow, lines-kept}
 use Rattle.leo_clausify.specs.declared.leaves.Leaf.{Leaf}
 use Rattle.leo_clausify.specs.Choosing.{AreInOrder}
 use Rattle.leo_clausify.specs.Leaves.{IsLeafOf, first_lines, last_clause, leaf_clause}
-use Rattle.leo_clausify.specs.Origins.{AreLinesFrom}
+use Rattle.leo_clausify.specs.Origins.{Origin, IsChoiceFrom, IsClauseFrom, IsTermFrom, AreLinesFrom}
 use Rattle.leo_clausify.specs.Splitting.{AreNormal, Splits, Overflows}
 use Rattle.leo_clausify.proofs.Picks.{items-kept, lacks-new}
+use Rattle.leo_clausify.proofs.SplitOrigins.{choices-from}
 use Rattle.leo_turn.specs.declared.search.Search.{Search}
 use Rattle.leo_turn.specs.Changing.{AreAnnounced, AreLeavesOf, AreNew, IsConverted, IsLeafAt, HasSameSymbols}
 use Rattle.leo_turn.specs.Growth.{IsLonger}
 use Rattle.leo_turn.specs.Intakes.{Intakes, splits, overflows, TakesAll, normal_clause}
-use Rattle.leo_turn.specs.Searches.{IsSearch, choices_of, kept_of, lines_of}
-use Rattle.leo_turn.proofs.Lists.{get-map, get-last, length-map, longer-get, longer-map}
+use Rattle.leo_turn.specs.Origins.{IsOriginOf}
+use Rattle.leo_turn.specs.Searches.{HasClause, IsSearch, choices_of, hypotheses_of, kept_of, lines_of}
+use Rattle.leo_turn.proofs.Lists.{get-made, get-map, get-last, length-map, longer-get, longer-map}
+use Rattle.leo_turn.proofs.Origins.{all-from, clause-from}
 use Rattle.leo_turn.proofs.Splitting.{AreMore, high-at, items-longer, overflows-weaker, splits-more, splits-weaker}
-use Rattle.leo_turn.proofs.Valid.{choices-same, hypotheses-same, kept-same, lines-same, typed-grow}
+use Rattle.leo_turn.proofs.Valid.{choices-same, hypotheses-same, kept-same, lines-same, search-grow, typed-grow}
 
 -- no term of a bank has a symbol that came later
 module _ (c : Contents) (b : IsBank c) (n : ℕ) (high : length c.symbols ≤ n) where
@@ -69,6 +72,11 @@ get-behind (y ∷ xs) ys zero x l e = absurd (let f : ⊥ = omega arith in f)
 get-behind (y ∷ xs) ys (suc i) x l e = get-behind xs ys i x (omega arith) e
 
 -- with choice symbols more, each of which has a number that no earlier symbol has
+-- the terms of the items that are new are from each origin of the lines and of the items before them
+abbrev pub AreNewFrom : Contents → Search → List (ℕ × ℕ) → Type 0
+AreNewFrom c s items = (n : ℕ) (k : ℕ × ℕ) → slice_get items n ≡ Some k → length s.abbr.items ≤ n → (o : Origin) → IsOriginOf (hypotheses_of c s) (lines_of c s) o
+    → ((m : ℕ) (j : ℕ × ℕ) → m < n → slice_get items m ≡ Some j → IsChoiceFrom o (choice_at c j)) → IsTermFrom o (tree_at c k.1)
+
 module _ {c d : Contents} (e : Extends c d) (s : Search) (h : IsSearch c s) (items : List (ℕ × ℕ)) (more : AreMore (length c.symbols) (choices_of c s) (map (choice_at d) items)) (order : AreInOrder d items) where
   pub more-longer : IsLonger s.abbr.items items
   more-longer = items-longer e s.abbr.items items more.more h.choices.of_bank order.of_bank more.is
@@ -80,10 +88,11 @@ module _ {c d : Contents} (e : Extends c d) (s : Search) (h : IsSearch c s) (ite
       let b = get-behind (choices_of c s) more.more n (choice_at d k) (omega arith) there in
       high-at (length c.symbols) more.more b.0 (choice_at d k) more.high b.1
 
-  pub more-new : AreNew d s items
-  more-new = record {
+  pub more-new : AreNewFrom d s items → AreNew d s items
+  more-new from = record {
     hypotheses_lack = λ n k g l. subst (LackSymbol k.0) (sym (hypotheses-same e s h)) (terms-lack c (old_bank e) k.0 (high n k g l) s.hyps h.hypotheses);
     lines_lack = λ n k g l. subst (LinesLackSymbol k.0) (sym (lines-same e s h)) (lines-lack c (old_bank e) k.0 (high n k g l) s.lines h.steps);
+    terms_from = from;
   }
 
 -- after a split
@@ -91,8 +100,16 @@ module _ {c d : Contents} (e : Extends c d) (s : Search) (h : IsSearch c s) (abb
   pub split-longer : IsLonger s.abbr.items abbr.items
   split-longer = more-longer e s h abbr.items (splits-more (length c.symbols) room (choices_of c s) (choices_at d abbr) start leaves split) order
 
-  pub split-new : AreNew d s abbr.items
-  split-new = more-new e s h abbr.items (splits-more (length c.symbols) room (choices_of c s) (choices_at d abbr) start leaves split) order
+  split-from : (line : ℕ) → HasClause (lines_of c s) line start → AreNewFrom d s abbr.items
+  split-from line there n k g l o from before =
+      let many : length (choices_of c s) ≡ length s.abbr.items = length-map (choice_at c) s.abbr.items in
+      let all : AreLinesFrom o (lines_of d s) = all-from (lines_of d s) (search-grow e s h).origin from in
+      let clause : IsClauseFrom o start = clause-from o (lines_of c s) line start (subst (AreLinesFrom o) (lines-same e s h) all) there in
+      choices-from (length c.symbols) room (choices_of c s) (choices_at d abbr) start leaves split n (choice_at d k) (let x = many in omega (arith, x, l)) (get-map (choice_at d) abbr.items n k g) o from.truth clause
+      (λ m j u at. (let f = get-made (choice_at d) abbr.items m j at in subst (IsChoiceFrom o) f.1.1 (before m f.0 u f.1.0)))
+
+  pub split-new : (line : ℕ) → HasClause (lines_of c s) line start → AreNew d s abbr.items
+  split-new line there = more-new e s h abbr.items (splits-more (length c.symbols) room (choices_of c s) (choices_at d abbr) start leaves split) order (split-from line there)
 
 -- leaves in a bank that grew
 leaf-grow : {c d : Contents} → Extends c d → (choices : List Choice) (start : ClauseTree) (leaf : Leaf) → IsLeafOf c choices start leaf → IsLeafOf d choices start leaf
@@ -131,6 +148,14 @@ module _ {b0 b1 : Contents} (e01 : Extends b0 b1) (s0 s1 : Search) (line : ℕ) 
   choices-as : choices_of b1 s1 ≡ choices_of b0 s0
   choices-as = ap (choices_at b1) abbr-same ∙ choices-same e01 s0 h0
 
+  converted-stands : slice_get (lines_of b1 s1) (length s0.lines) ≡ Some (line_at b1 conv.record_of)
+  converted-stands =
+      let lines : lines_of b1 s1 ≡ map (line_at b1) s0.lines ++ line_at b1 conv.record_of ∷ [] = ap (λ (s : Search). map (line_at b1) s.lines) conv.new_is ∙ map-append (line_at b1) s0.lines (conv.record_of ∷ []) in
+      rw lines (subst (λ n. slice_get (map (line_at b1) s0.lines ++ line_at b1 conv.record_of ∷ []) n ≡ Some (line_at b1 conv.record_of)) (length-map (line_at b1) s0.lines) (get-last (map (line_at b1) s0.lines) (line_at b1 conv.record_of)))
+
+  pub converted-there : HasClause (lines_of b1 s1) (length s0.lines) (clause_at b1 k)
+  converted-there = record { line = line_at b1 conv.record_of; stands = converted-stands; clause_is = conv.clause }
+
   pub taken-room : {b2 : Contents} → Extends b1 b2 → (limit : Option ℕ) → Overflows (length b1.symbols) 256 (choices_of b1 s1) (clause_at b1 k) → Intakes (length b0.symbols) limit (kept_of b0 s0) (choices_of b0 s0) (clause_of (lines_of b0 s0) line) (kept_of b2 s1) (choices_of b2 s1)
   taken-room {b2} e12 limit o =
       let e02 = extends-trans e01 e12 in
@@ -148,9 +173,7 @@ module _ {b0 b1 : Contents} (e01 : Extends b0 b1) (s0 s1 : Search) (line : ℕ) 
 
     the-line : slice_get (lines_of b3 s2) (length s0.lines) ≡ Some (line_at b1 conv.record_of)
     the-line =
-        let lines : lines_of b1 s1 ≡ map (line_at b1) s0.lines ++ line_at b1 conv.record_of ∷ [] = ap (λ (s : Search). map (line_at b1) s.lines) conv.new_is ∙ map-append (line_at b1) s0.lines (conv.record_of ∷ []) in
-        let first : slice_get (lines_of b1 s1) (length s0.lines) ≡ Some (line_at b1 conv.record_of) = rw lines (subst (λ n. slice_get (map (line_at b1) s0.lines ++ line_at b1 conv.record_of ∷ []) n ≡ Some (line_at b1 conv.record_of)) (length-map (line_at b1) s0.lines) (get-last (map (line_at b1) s0.lines) (line_at b1 conv.record_of))) in
-        let then : slice_get (lines_of b3 s1) (length s0.lines) ≡ Some (line_at b1 conv.record_of) = subst (λ (ls : List Line). slice_get ls (length s0.lines) ≡ Some (line_at b1 conv.record_of)) (sym (lines-same (extends-trans e12 e23) s1 conv.search)) first in
+        let then : slice_get (lines_of b3 s1) (length s0.lines) ≡ Some (line_at b1 conv.record_of) = subst (λ (ls : List Line). slice_get ls (length s0.lines) ≡ Some (line_at b1 conv.record_of)) (sym (lines-same (extends-trans e12 e23) s1 conv.search)) converted-stands in
         longer-get (longer-map (line_at b3) ann.lines) (length s0.lines) (line_at b1 conv.record_of) then
 
     pub leaves-at : AreLeavesOf b3 s2 (length s0.lines) leaves

@@ -25,6 +25,7 @@ search-given c s given h has = record {
   hypotheses = h.hypotheses;
   steps = h.steps;
   accepted = h.accepted;
+  origin = h.origin;
   choices = h.choices;
   choice_lines = h.choice_lines;
   rising = h.rising;

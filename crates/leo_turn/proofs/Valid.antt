@@ -2,7 +2,7 @@
 use Rattle.std.proofs.Common.{ℕ, zero, suc, ◌≡◌, ◌∙◌, ◌+◌, ◌<◌, ◌⊎◌, inl, inr, false, List, [], ◌∷◌, ◌++◌, length, map, take, slice_get, Option, Some, None, refl, sym, ap, subst, eq-eqb, ne_eqb, arith}
 use Rattle.std.specs.Prelude.{nat_eq}
 use Rattle.leo_terms.specs.Tree.{Tree}
-use Rattle.leo_terms.specs.Contents.{Contents, Extends}
+use Rattle.leo_terms.specs.Contents.{Contents, Extends, tree_at}
 use Rattle.leo_terms.proofs.CallerLemmas.{trees-kept, are_terms-kept}
 use Rattle.leo_clause.specs.declared.clause.Clause.{Clause}
 use Rattle.leo_clause.specs.declared.record.StepRecord.{StepRecord}
@@ -25,11 +25,13 @@ use Rattle.leo_keep.specs.Outcomes.{AreTypedIn}
 use Rattle.leo_keep.proofs.CallerLemmas.{fronts-added, fronts-grow}
 use Rattle.leo_passive.specs.Entries.{Entry, AreBelow}
 use Rattle.leo_turn.specs.declared.search.Search.{Search}
-use Rattle.leo_turn.specs.Changing.{with_lines, with_choice, with_clause}
+use Rattle.leo_turn.specs.Changing.{IsAllFrom, with_lines, with_choice, with_clause}
 use Rattle.leo_turn.specs.Growth.{IsLonger}
+use Rattle.leo_turn.specs.Origins.{AreFrom}
 use Rattle.leo_turn.specs.Searches.{AreAbove, AreAllBelow, AreNormalIn, ArePlain, AreShared, HasClause, HaveChoices, HaveClauses, HaveWeights, IsRising, IsSearch, choices_of, hypotheses_of, kept_of, lines_of, numbers_of, passive_weight, times}
 use Rattle.std.proofs.lemmas.List.{length-append, map-append, take-append-le}
 use Rattle.std.proofs.Math.Seq.{take-append_seam}
+use Rattle.leo_turn.proofs.Origins.{from-choice}
 use Rattle.leo_turn.proofs.Lists.{below-last, get-added, get-last, get-within, length-map, longer-get, longer-map, some-same}
 
 -- lines more
@@ -81,11 +83,12 @@ accepted-added hypotheses lines l h a n step e = get-added (λ n s. Accepts hypo
     (subst (λ ls. Accepts hypotheses ls l) (sym (take-append_seam lines (l ∷ []))) a)
     n step e
 
-pub search-lines : (c : Contents) (s : Search) (ls : List StepRecord) → IsSearch c s → IsLonger s.lines ls → AreStepsOf c ls → AreAccepted (hypotheses_of c s) (map (line_at c) ls) → IsSearch c (with_lines s ls)
-search-lines c s ls h l steps a = record {
+pub search-lines : (c : Contents) (s : Search) (ls : List StepRecord) → IsSearch c s → IsLonger s.lines ls → AreStepsOf c ls → AreAccepted (hypotheses_of c s) (map (line_at c) ls) → AreFrom (hypotheses_of c s) (map (line_at c) ls) → IsSearch c (with_lines s ls)
+search-lines c s ls h l steps a from = record {
   hypotheses = h.hypotheses;
   steps = steps;
   accepted = a;
+  origin = from;
   choices = h.choices;
   choice_lines = choices-longer (longer-map (line_at c) l) s.abbr_at (choices_of c s) h.choice_lines;
   rising = h.rising;
@@ -137,6 +140,7 @@ module _ {c d : Contents} (e : Extends c d) where
       hypotheses = are_terms-kept e s.hyps h.hypotheses;
       steps = lines-grow e s.lines h.steps;
       accepted = rw (hypotheses-same, lines-same) h.accepted;
+      origin = rw (hypotheses-same, lines-same) h.origin;
       choices = order-grow s.abbr.items h.choices;
       choice_lines = rw (lines-same, choices-same) h.choice_lines;
       rising = h.rising;
@@ -165,8 +169,8 @@ rising-added : (n : ℕ) (ns : List ℕ) → IsRising ns → AreAllBelow n ns �
 rising-added n [] h b = (tt, tt)
 rising-added n (m ∷ ns) h b = (above-added m n ns h.0 b.0, rising-added n ns h.1 b.1)
 
-pub search-choice : (c : Contents) (s : Search) (line : StepRecord) (item : ℕ × ℕ) → IsSearch c s → AreInOrder c (s.abbr.items ++ item ∷ []) → IsStepOf c line → line_at c line ≡ choice_line (choice_at c item) → Accepts (hypotheses_of c s) (lines_of c s) (choice_line (choice_at c item)) → IsSearch c (with_choice s line item)
-search-choice c s line item h order step is a =
+pub search-choice : (c : Contents) (s : Search) (line : StepRecord) (item : ℕ × ℕ) → IsSearch c s → AreInOrder c (s.abbr.items ++ item ∷ []) → IsStepOf c line → line_at c line ≡ choice_line (choice_at c item) → Accepts (hypotheses_of c s) (lines_of c s) (choice_line (choice_at c item)) → IsAllFrom (hypotheses_of c s) (lines_of c s) (tree_at c item.1) → IsSearch c (with_choice s line item)
+search-choice c s line item h order step is a from =
     let more : map (line_at c) (s.lines ++ line ∷ []) ≡ lines_of c s ++ choice_line (choice_at c item) ∷ [] = map-append (line_at c) s.lines (line ∷ []) ∙ rw is refl in
     let longer : IsLonger (lines_of c s) (map (line_at c) (s.lines ++ line ∷ [])) = record { more = choice_line (choice_at c item) ∷ []; is = more } in
     let count : length (lines_of c s) ≡ length s.lines = length-map (line_at c) s.lines in
@@ -175,6 +179,7 @@ search-choice c s line item h order step is a =
       hypotheses = h.hypotheses;
       steps = steps-added c s.lines line h.steps step;
       accepted = rw more (accepted-added (hypotheses_of c s) (lines_of c s) (choice_line (choice_at c item)) h.accepted a);
+      origin = rw more (from-choice (hypotheses_of c s) (lines_of c s) (choice_at c item) h.origin from);
       choices = order;
       choice_lines = rw (map-append (choice_at c) s.abbr.items (item ∷ [])) (choices-added (map (line_at c) (s.lines ++ line ∷ [])) s.abbr_at (choices_of c s) (length s.lines) (choice_at c item) (choices-longer longer s.abbr_at (choices_of c s) h.choice_lines) stands);
       rising = rising-added (length s.lines) s.abbr_at h.rising (subst (λ n. AreAllBelow n s.abbr_at) count (choice-within (lines_of c s) s.abbr_at (choices_of c s) h.choice_lines));
@@ -256,6 +261,7 @@ search-clause c s k f n w h few typed front normal line plain weight =
       hypotheses = h.hypotheses;
       steps = h.steps;
       accepted = h.accepted;
+      origin = h.origin;
       choices = h.choices;
       choice_lines = h.choice_lines;
       rising = h.rising;

@@ -14,6 +14,7 @@ use Rattle.leo_kernel.specs.Steps.{Line, clause_in, clause_of, line_at}
 use Rattle.leo_kernel.specs.Symbols.{abbreviation_at, abbreviation_of}
 use Rattle.leo_kernel.proofs.Growing.{clause-kept}
 use Rattle.leo_kernel.proofs.LinesGrowing.{lines-grow, lines-kept}
+use Rattle.leo_clausify.specs.Origins.{AreLinesFrom}
 use Rattle.leo_conclude.specs.declared.concluding.Conclusion.{Conclusion}
 use Rattle.leo_conclude.specs.Conclusions.{AreConclusions}
 use Rattle.leo_conclude.specs.Leaving.{AreConstraints, AreNumbersOf}
@@ -21,7 +22,7 @@ use Rattle.leo_conclude.specs.Results.{AreConclusionsOf, conclusion_clause}
 use Rattle.leo_conclude.proofs.Concluded.{conclusion-grows}
 use Rattle.leo_para.specs.declared.member.Due.{Due}
 use Rattle.leo_turn.specs.declared.search.Search.{Search}
-use Rattle.leo_turn.specs.Changing.{AreAppended, AreReady, lines_before, with_lines}
+use Rattle.leo_turn.specs.Changing.{AreAllFrom, AreAppended, AreReady, lines_before, with_lines}
 use Rattle.leo_turn.specs.Growth.{Grows, IsLonger}
 use Rattle.leo_turn.specs.Intakes.{Intakes}
 use Rattle.leo_turn.specs.Searches.{HasClause, IsSearch, choices_of, hypotheses_of, kept_of, lines_of}
@@ -29,6 +30,8 @@ use Rattle.leo_turn.specs.Turns.{AreChoicesBelow, Constrained, Setting, Stock, T
 use Rattle.leo_turn.specs.Working.{AreConclusionsAt, AreDueAt, IsConclusionAt, IsDueAt, Makes, constrained_at, no_clause}
 use Rattle.leo_turn.proofs.Growing.{grows-itself, grows-trans}
 use Rattle.leo_turn.proofs.Lists.{get-map, get-within, length-map, longer-get, longer-map, stands-at, take-all, take-next}
+use Rattle.leo_turn.proofs.Origins.{all-from, clause-from, lines-shorter}
+use Rattle.leo_turn.proofs.SameOrigins.{clause-to, lines-of, tests}
 use Rattle.leo_turn.proofs.Valid.{choices-longer, choices-same, clause-longer, clauses-longer, kept-same, lines-same, plain-longer, search-lines}
 
 -- the lines of a search that went on, in a bank that grew
@@ -45,8 +48,8 @@ pub setting-same : {old s : Search} (symbols : ℕ) → Grows old s → setting_
 setting-same {old} {s} symbols g = rw (g.depth, g.weight) refl
 
 -- records were appended
-pub search-appended : (c : Contents) (s : Search) (records lines : List StepRecord) → IsSearch c s → AreAppended c records s.lines lines → IsLonger s.lines lines → IsSearch c (with_lines s lines)
-search-appended c s records lines h a longer = search-lines c s lines h longer (a.steps h.steps) (a.accepted (hypotheses_of c s) h.accepted)
+pub search-appended : (c : Contents) (s : Search) (records lines : List StepRecord) → IsSearch c s → AreAppended c records s.lines lines → IsLonger s.lines lines → AreAllFrom (hypotheses_of c s) (lines_of c s) (map (line_at c) records) → IsSearch c (with_lines s lines)
+search-appended c s records lines h a longer from = search-lines c s lines h longer (a.steps h.steps) (a.accepted (hypotheses_of c s) h.accepted) (a.origin (hypotheses_of c s) h.origin from)
 
 pub last-there : (c : Contents) (records old lines : List StepRecord) → AreAppended c records old lines → 0 < length records → length lines - 1 < length lines
 last-there c records old lines a some =
@@ -81,6 +84,9 @@ conclusion-ready c s line r at = record {
   steps = at.conclusion.steps;
   accepted = at.conclusion.accepted;
 }
+
+pub conclusion-from : (c : Contents) (s : Search) (line : ℕ) (r : Conclusion) → IsSearch c s → IsConclusionAt c s line r → AreAllFrom (hypotheses_of c s) (lines_of c s) (map (line_at c) r.records)
+conclusion-from c s line r h at o g = lines-of o (map (line_at c) r.records) (at.conclusion.origin (tests o) g.truth (clause-to o at.start (clause-from o (lines_of c s) line at.start (all-from (lines_of c s) h.origin g) at.clause)))
 
 conclusion-later : {c d : Contents} → Extends c d → (old s : Search) (line : ℕ) (r : Conclusion) → IsSearch c old → Grows old s → IsConclusionAt c old line r → IsConclusionAt d s line r
 conclusion-later {c} {d} e old s line r h g at = record {
@@ -134,9 +140,12 @@ numbers-read : (c : Contents) (lits : List Lit) (ns : List ℕ) → AreNumbersOf
 numbers-read c lits [] h = tt
 numbers-read c lits (n ∷ ns) h = (subst (λ m. n < m) (length-map (literal_at c) lits) h.0, numbers-read c lits ns h.1)
 
+pub due-from : (c : Contents) (s : Search) (first : List ℕ) (due : Due) → IsSearch c s → IsDueAt c s.lines first due → AreAllFrom (hypotheses_of c s) (lines_of c s) (map (line_at c) due.records)
+due-from c s first due h at o g = at.origin o g.truth (all-from (lines_of c s) h.origin g)
+
 module _ (c : Contents) (s : Search) (first : List ℕ) (due : Due) (lines : List StepRecord) (r : StepRecord) (h : IsSearch c s) (at : IsDueAt c s.lines first due) (a : AreAppended c due.records s.lines lines) (longer : IsLonger s.lines lines) (get : slice_get lines (length lines - 1) ≡ Some r) where
   valid : IsSearch c (with_lines s lines)
-  valid = search-appended c s due.records lines h a longer
+  valid = search-appended c s due.records lines h a longer (due-from c s first due h at)
 
   read : slice_get (map (line_at c) lines) (length lines - 1) ≡ Some (line_at c r)
   read = get-map (line_at c) lines (length lines - 1) r get
@@ -199,6 +208,7 @@ due-later {c} {d} e old s first due h g at =
         steps = lines-grow e due.records at.ready.steps;
         accepted = λ rule. subst (AreAcceptedAfter (lines_before at.ready.choices at.ready.clauses rule)) (sym (lines-kept e due.records at.ready.steps)) (at.ready.accepted rule);
       };
+      origin = λ o z from. subst (AreLinesFrom o) (sym (lines-kept e due.records at.ready.steps)) (at.origin o z (lines-shorter o longer from));
       some = at.some;
       numbers = subst (λ (i : Constrained). AreNumbersOf i.clause.literals due.pairs) (sym same) at.numbers;
       constraints = subst (λ (i : Constrained). AreConstraints i.clause.literals due.pairs) (sym same) at.constraints;

@@ -1,7 +1,7 @@
 -- How the calls below `intake` change a search. For private contracts.
 use Rattle.std.specs.Prelude.{ℕ, zero, suc, ◌≡◌, ◌-◌, ◌<◌, ◌≤◌, ◌^◌, List, [], ◌∷◌, ◌++◌, length, map, take, get_or, slice_get, Option, Some, None, IsTrue}
 use Rattle.leo_terms.specs.Tree.{Tree}
-use Rattle.leo_terms.specs.Contents.{Contents}
+use Rattle.leo_terms.specs.Contents.{Contents, tree_at}
 use Rattle.leo_clause.specs.declared.clause.Clause.{Clause}
 use Rattle.leo_clause.specs.declared.record.StepRecord.{StepRecord}
 use Rattle.leo_clause.specs.Choices.{Choice, choice_at}
@@ -21,6 +21,8 @@ use Rattle.leo_turn.specs.declared.search.Search.{Search}
 use Rattle.leo_turn.specs.Searches.{ArePlain, HasClause, HaveChoices, HaveClauses, IsSearch, choices_of, hypotheses_of, lines_of}
 use Rattle.leo_turn.specs.Growth.{IsLonger}
 use Rattle.leo_turn.specs.Intakes.{normal_clause}
+use Rattle.leo_turn.specs.Origins.{AreFrom, IsOriginOf}
+use Rattle.leo_clausify.specs.Origins.{Origin, IsChoiceFrom, IsTermFrom, AreLinesFrom}
 use Rattle.leo_clausify.specs.Splitting.{AreNormal}
 
 -- the search with another journal
@@ -110,17 +112,30 @@ pub record AreReady (c : Contents) (lines : List StepRecord) (numbers : List ℕ
   pub steps : AreStepsOf c records
   pub accepted : (rule : StepRule) → AreAcceptedAfter (lines_before choices clauses rule) (map (line_at c) records)
 
--- a journal with these records more is one still, and ends with their last clause, in a line that does not abbreviate
+-- the lines are from each origin of the hypotheses and of these earlier lines
+abbrev pub AreAllFrom : List Tree → List Line → List Line → Type 0
+AreAllFrom hypotheses earlier lines = (o : Origin) → IsOriginOf hypotheses earlier o → AreLinesFrom o lines
+
+-- so is the term
+abbrev pub IsAllFrom : List Tree → List Line → Tree → Type 0
+IsAllFrom hypotheses earlier t = (o : Origin) → IsOriginOf hypotheses earlier o → IsTermFrom o t
+
+-- a journal with these records more is one still, and ends with their last clause, in a line that does not abbreviate. Its lines
+-- are from the hypotheses, if those before are, and the records are from each origin of these
 pub record AreAppended (c : Contents) (records old new : List StepRecord) : Type 0 where
   pub steps : AreStepsOf c old → AreStepsOf c new
   pub accepted : (hypotheses : List Tree) → AreAccepted hypotheses (map (line_at c) old) → AreAccepted hypotheses (map (line_at c) new)
+  pub origin : (hypotheses : List Tree) → AreFrom hypotheses (map (line_at c) old) → AreAllFrom hypotheses (map (line_at c) old) (map (line_at c) records) → AreFrom hypotheses (map (line_at c) new)
   pub ends : (k : ClauseTree) → 0 < length records → HasClause (map (line_at c) new) (length new - 1) (last_clause k (map (line_at c) records))
   pub plain : 0 < length records → abbreviation_of (map (line_at c) new) (length new - 1) ≡ None
 
--- no line and no hypothesis has the symbol of an item that is not introduced yet
+-- no line and no hypothesis has the symbol of an item that is not introduced yet, and its term is from each origin of these and of
+-- the items before it
 pub record AreNew (c : Contents) (s : Search) (items : List (ℕ × ℕ)) : Type 0 where
   pub hypotheses_lack : (n : ℕ) (k : ℕ × ℕ) → slice_get items n ≡ Some k → length s.abbr.items ≤ n → LackSymbol k.0 (hypotheses_of c s)
   pub lines_lack : (n : ℕ) (k : ℕ × ℕ) → slice_get items n ≡ Some k → length s.abbr.items ≤ n → LinesLackSymbol k.0 (lines_of c s)
+  pub terms_from : (n : ℕ) (k : ℕ × ℕ) → slice_get items n ≡ Some k → length s.abbr.items ≤ n → (o : Origin) → IsOriginOf (hypotheses_of c s) (lines_of c s) o
+      → ((m : ℕ) (j : ℕ × ℕ) → m < n → slice_get items m ≡ Some j → IsChoiceFrom o (choice_at c j)) → IsTermFrom o (tree_at c k.1)
 
 -- the search with this choice symbol more, and its line
 pub record IsAnnounced (c : Contents) (old new : Search) (item : ℕ × ℕ) : Type 0 where

@@ -1,3 +1,4 @@
+pub mod Origins
 pub mod Searches
 pub mod Intakes
 pub mod Growth

@@ -17,6 +17,7 @@ use Rattle.leo_keep.specs.Fronts.{AreFronts}
 use Rattle.leo_keep.specs.Outcomes.{AreTypedIn}
 use Rattle.leo_passive.specs.Entries.{Entry, AreBelow}
 use Rattle.leo_turn.specs.declared.search.Search.{Search}
+use Rattle.leo_turn.specs.Origins.{AreFrom}
 
 -- what a search has, as trees
 abbrev pub hypotheses_of : Contents → Search → List Tree
@@ -103,6 +104,7 @@ pub record IsSearch (c : Contents) (s : Search) : Type 0 where
   pub hypotheses : AreTerms c s.hyps
   pub steps : AreStepsOf c s.lines
   pub accepted : AreAccepted (hypotheses_of c s) (lines_of c s)
+  pub origin : AreFrom (hypotheses_of c s) (lines_of c s)
   pub choices : AreInOrder c s.abbr.items
   pub choice_lines : HaveChoices (lines_of c s) s.abbr_at (choices_of c s)
   pub rising : IsRising s.abbr_at

@@ -1,11 +1,12 @@
 -- What the calls that work inferences say to one another. For private contracts.
-use Rattle.std.specs.Prelude.{ℕ, ◌≡◌, ◌<◌, ◌≤◌, List, [], length, map, slice_get, Some, None}
+use Rattle.std.specs.Prelude.{ℕ, ◌≡◌, ◌<◌, ◌≤◌, true, List, [], length, map, slice_get, Some, None}
 use Rattle.leo_terms.specs.Contents.{Contents}
 use Rattle.leo_clause.specs.declared.record.StepRecord.{StepRecord}
 use Rattle.leo_clause.specs.Trees.{ClauseTree}
 use Rattle.leo_kernel.specs.Steps.{line_at}
 use Rattle.leo_kernel.specs.Symbols.{abbreviation_of}
 use Rattle.leo_clausify.specs.Leaves.{last_clause}
+use Rattle.leo_clausify.specs.Origins.{Origin, AreLinesFrom}
 use Rattle.leo_conclude.specs.declared.concluding.Conclusion.{Conclusion}
 use Rattle.leo_conclude.specs.Leaving.{AreConstraints, AreNumbersOf}
 use Rattle.leo_conclude.specs.Results.{IsConclusionOf}
@@ -24,9 +25,11 @@ no_clause = record { variables = []; literals = [] }
 abbrev pub constrained_at : Contents → Due → Constrained
 constrained_at c d = record { clause = last_clause no_clause (map (line_at c) d.records); constraints = d.pairs }
 
--- an inference can be worked: its records follow on the lines with these numbers, and what is to be solved are inequations
+-- an inference can be worked: its records follow on the lines with these numbers, each base type in them is `$o` or stands in the
+-- lines, each symbol stands there, and what is to be solved are inequations
 pub record IsDueAt (c : Contents) (lines : List StepRecord) (first : List ℕ) (d : Due) : Type 0 where
   pub ready : AreReady c lines first d.records
+  pub origin : (o : Origin) → o.has_base 0 ≡ true → AreLinesFrom o (map (line_at c) lines) → AreLinesFrom o (map (line_at c) d.records)
   pub some : 0 < length d.records
   pub numbers : AreNumbersOf (constrained_at c d).clause.literals d.pairs
   pub constraints : AreConstraints (constrained_at c d).clause.literals d.pairs

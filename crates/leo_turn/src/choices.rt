@@ -1,14 +1,14 @@
 //! Choice symbols and the lines that introduce them.
 
 ghost use Rattle.std.specs.Prelude.{◌≡◌, ◌∷◌, ◌++◌, [], IfOk};
-ghost use Rattle.leo_terms.specs.Contents.{Extends};
+ghost use Rattle.leo_terms.specs.Contents.{Extends, tree_at};
 ghost use Rattle.leo_clause.specs.Choices.{IsChoiceOf, choice_at};
 ghost use Rattle.leo_kernel.specs.Records.{IsStepOf};
 ghost use Rattle.leo_kernel.specs.Steps.{line_at};
 ghost use Rattle.leo_kernel.specs.Symbols.{LackSymbol, LinesLackSymbol};
 ghost use Rattle.leo_clausify.specs.Choosing.{AreInOrder};
 ghost use Rattle.leo_clausify.specs.Leaves.{choice_line};
-ghost use Rattle.leo_turn.specs.Changing.{AreAnnounced, AreNew, IsAnnounced};
+ghost use Rattle.leo_turn.specs.Changing.{AreAnnounced, AreNew, IsAllFrom, IsAnnounced};
 ghost use Rattle.leo_turn.specs.Growth.{Grows, IsLonger};
 ghost use Rattle.leo_turn.specs.Searches.{IsSearch, hypotheses_of, lines_of};
 
@@ -59,6 +59,7 @@ fn introduce(
     requires order { AreInOrder bank.old (search.old.abbr.items ++ (symbol, term) ∷ []) }
     requires hypotheses_lack { LackSymbol symbol (hypotheses_of bank.old search.old) }
     requires lines_lack { LinesLackSymbol symbol (lines_of bank.old search.old) }
+    requires origin { IsAllFrom (hypotheses_of bank.old search.old) (lines_of bank.old search.old) (tree_at bank.old term) }
     ensures introduced { IfOk result (λ _. IsAnnounced bank.new search.old search.new (symbol, term)) }
     ensures longer { Grows search.old search.new }
     ensures grows { Extends bank.old bank.new }

@@ -11,8 +11,9 @@ use crate::choices::introduce_all;
 use crate::journal::with_number;
 use crate::search::Search;
 use crate::working::work_all;
-use leo_ext::laws::unary_laws;
+use leo_ext::laws::{unary_laws, unary_members_are_from_clause};
 use leo_ext::unary;
+use leo_para::laws::due_laws;
 use leo_para::para;
 use leo_terms::Bank;
 use std::alloc::{AllocError, Global};
@@ -33,6 +34,7 @@ fn infer_alone(
 {
     bank.is_sound();
     unary_laws();
+    unary_members_are_from_clause();
     let mut abbr = search.abbr.copy(alloc)?;
     let clause = &search.kept.clauses()[given as usize];
     let dues = unary(alloc, bank, &mut abbr, clause)?;
@@ -60,6 +62,7 @@ fn infer_between(
     ensures grows { Extends bank.old bank.new }
 {
     bank.is_sound();
+    due_laws();
     let clauses = search.kept.clauses();
     let from = &clauses[source as usize];
     let into = &clauses[target as usize];

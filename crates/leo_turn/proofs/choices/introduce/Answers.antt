@@ -23,4 +23,4 @@ pub returns-clause-longer : goal.returns-clause-longer
 returns-clause-longer c = grows-choice c.args.search.now c.push.new.self c.push-2.new.self c.push-3.new.self (longer-pushed _ c.in_ok-push.ensures.ok) (longer-pushed _ c.in_ok-push-2.ensures.ok) (longer-pushed _ c.in_ok-push-3.ensures.ok)
 
 pub returns-clause-introduced : goal.returns-clause-introduced
-returns-clause-introduced c = rw (c.in_ok-push.ensures.ok, c.in_ok-push-2.ensures.ok, c.in_ok-push-3.ensures.ok, c.len-number.ensures) (announced c.abbreviation.ensures.grows c.args.search.now c.in_ok-line.line (c.args.symbol, c.args.term) c.requires.search c.requires.order c.requires.hypotheses_lack c.requires.lines_lack c.in_ok-line.ensures.line c.in_ok-line.ensures.step)
+returns-clause-introduced c = rw (c.in_ok-push.ensures.ok, c.in_ok-push-2.ensures.ok, c.in_ok-push-3.ensures.ok, c.len-number.ensures) (announced c.abbreviation.ensures.grows c.args.search.now c.in_ok-line.line (c.args.symbol, c.args.term) c.requires.search c.requires.order c.requires.hypotheses_lack c.requires.lines_lack c.requires.origin c.in_ok-line.ensures.line c.in_ok-line.ensures.step)

@@ -1,5 +1,5 @@
 use Rattle.leo_terms.proofs.CallerLemmas.{extends-itself, extends-trans}
-use Rattle.leo_turn.proofs.Introducing.{introduced-first, introduced-hypotheses, introduced-lines, introduced-next, introduced-order}
+use Rattle.leo_turn.proofs.Introducing.{introduced-first, introduced-from, introduced-hypotheses, introduced-lines, introduced-next, introduced-order}
 use Rattle.leo_turn.proofs.Growing.{grows-trans}
 use Rattle.leo_turn.proofs.Lists.{stands-at}
 use Rattle.leo_turn.proofs.choices.introduce_all.Goals as goal
@@ -15,6 +15,9 @@ introduce-requires-clause-hypotheses_lack c = introduced-hypotheses c.loop-place
 
 pub introduce-requires-clause-lines_lack : goal.introduce-requires-clause-lines_lack
 introduce-requires-clause-lines_lack c = introduced-lines c.loop-place.bank c.args.search.now c.loop-place.search c.args.items.now c.loop-place.place c.index-items-place.result c.loop-place.invariant.1 (stands-at c.args.items.now c.loop-place.place c.index-items-place.result c.loop-place-test.true c.index-items-place.is)
+
+pub introduce-requires-clause-origin : goal.introduce-requires-clause-origin
+introduce-requires-clause-origin c = introduced-from c.loop-place.bank c.args.search.now c.loop-place.search c.args.items.now c.loop-place.place c.index-items-place.result c.loop-place.invariant.1 (stands-at c.args.items.now c.loop-place.place c.index-items-place.result c.loop-place-test.true c.index-items-place.is)
 
 pub returns-in_err-introduce-clause-grows : goal.returns-in_err-introduce-clause-grows
 returns-in_err-introduce-clause-grows c = extends-trans c.loop-place.invariant.0 c.introduce.ensures.grows

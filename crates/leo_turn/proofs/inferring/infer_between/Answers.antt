@@ -44,7 +44,7 @@ work_all-requires-clause-dues c =
     let due : AreDue c.para.new.bank (clause_at c.args.bank.now c.index-clauses-source.result) (clause_at c.args.bank.now c.index-clauses-target.result) c.in_ok-dues.dues = c.in_ok-dues.ensures.due in
     let one : c.args.source < length c.args.search.now.at = rw (kept-at c.args.bank.now c.args.search.now c.requires.search) c.requires.source in
     let two : c.args.target < length c.args.search.now.at = rw (kept-at c.args.bank.now c.args.search.now c.requires.search) c.requires.target in
-    rw (c.as_slice.ensures, c.as_slice-at.ensures) (between-due c.para.ensures.grows c.args.search.now c.args.source c.args.target (slice_index_or c.args.search.now.at c.args.source 0) (slice_index_or c.args.search.now.at c.args.target 0) c.index-clauses-source.result c.index-clauses-target.result c.in_ok-dues.dues c.requires.search first second due (stands-there c.args.search.now.at c.args.source one) (stands-there c.args.search.now.at c.args.target two))
+    rw (c.as_slice.ensures, c.as_slice-at.ensures) (between-due c.para.ensures.grows c.args.search.now c.args.source c.args.target (slice_index_or c.args.search.now.at c.args.source 0) (slice_index_or c.args.search.now.at c.args.target 0) c.index-clauses-source.result c.index-clauses-target.result c.in_ok-dues.dues c.requires.search first second due c.due_laws.ensures.symbols c.due_laws.ensures.bases (stands-there c.args.search.now.at c.args.source one) (stands-there c.args.search.now.at c.args.target two))
 
 pub returns-in_err-work_all-clause-grows : goal.returns-in_err-work_all-clause-grows
 returns-in_err-work_all-clause-grows c = extends-trans c.para.ensures.grows c.work_all.ensures.grows

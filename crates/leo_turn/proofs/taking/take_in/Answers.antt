@@ -1,4 +1,4 @@
-use Rattle.std.proofs.Common.{List, Option, map, subst, ℕ}
+use Rattle.std.proofs.Common.{List, Option, length, map, subst, ℕ}
 use Rattle.leo_clausify.specs.declared.leaves.Leaf.{Leaf}
 use Rattle.leo_turn.specs.Changing.{AreAnnounced}
 use Rattle.leo_terms.proofs.CallerLemmas.{extends-trans}
@@ -9,7 +9,7 @@ use Rattle.leo_clausify.specs.Leaves.{IsSplit, leaf_clause}
 use Rattle.leo_turn.specs.Intakes.{TakesAll, limit_if}
 use Rattle.leo_turn.specs.Searches.{kept_of}
 use Rattle.leo_turn.proofs.Growing.{grows-trans}
-use Rattle.leo_turn.proofs.Taken.{leaves-at, split-longer, split-new, taken-leaves, taken-room}
+use Rattle.leo_turn.proofs.Taken.{converted-there, leaves-at, split-longer, split-new, taken-leaves, taken-room}
 use Rattle.leo_turn.proofs.Valid.{search-grow}
 use Rattle.leo_turn.proofs.taking.take_in.Goals as goal
 
@@ -41,7 +41,7 @@ pub introduce_all-requires-clause-new : goal.introduce_all-requires-clause-new
 introduce_all-requires-clause-new c =
     let with_abbr : IsSplit c.convert.new.bank c.split.new.bank c.convert.new.search.abbr c.split.new.abbr c.in_ok-clause.clause c.in_ok-split.field-0 = subst (λ (a : Abbr). IsSplit c.convert.new.bank c.split.new.bank a c.split.new.abbr c.in_ok-clause.clause c.in_ok-split.field-0) c.in_ok-abbr.ensures c.in_ok-split.ensures.split in
     let split : IsSplit c.convert.new.bank c.split.new.bank c.convert.new.search.abbr c.split.new.abbr c.in_ok-clause.clause (Clauses c.in-Clauses.leaves) = subst (λ (a : Split). IsSplit c.convert.new.bank c.split.new.bank c.convert.new.search.abbr c.split.new.abbr c.in_ok-clause.clause a) c.in-Clauses.is with_abbr in
-    rw c.as_slice.ensures (split-new c.split.ensures.grows c.convert.new.search c.in_ok-clause.ensures.converted.search c.split.new.abbr 256 _ _ split.0 c.split.ensures.choices)
+    rw c.as_slice.ensures (split-new c.split.ensures.grows c.convert.new.search c.in_ok-clause.ensures.converted.search c.split.new.abbr 256 _ _ split.0 c.split.ensures.choices (length c.args.search.now.lines) (converted-there c.convert.ensures.grows c.args.search.now c.convert.new.search c.args.line c.in_ok-clause.clause c.requires.search c.in_ok-clause.ensures.converted))
 
 pub returns-in_err-introduce_all-in-Clauses-clause-grows :
     goal.returns-in_err-introduce_all-in-Clauses-clause-grows

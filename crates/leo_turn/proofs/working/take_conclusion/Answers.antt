@@ -1,6 +1,6 @@
 use Rattle.leo_terms.proofs.CallerLemmas.{extends-itself}
 use Rattle.leo_turn.proofs.Growing.{grows-lines, grows-trans}
-use Rattle.leo_turn.proofs.Worked.{conclusion-ready, conclusion-taken, last-there, search-appended}
+use Rattle.leo_turn.proofs.Worked.{conclusion-from, conclusion-ready, conclusion-taken, last-there, search-appended}
 use Rattle.leo_turn.proofs.working.take_conclusion.Goals as goal
 
 pub append_records-requires : goal.append_records-requires
@@ -13,7 +13,7 @@ pub returns-in_err-append_records-clause-grows : goal.returns-in_err-append_reco
 returns-in_err-append_records-clause-grows c = extends-itself c.is_sound.ensures.sound
 
 pub intake-requires-clause-search : goal.intake-requires-clause-search
-intake-requires-clause-search c = search-appended c.args.bank.now c.args.search.now c.args.conclusion.now.records c.append_records.new.lines c.requires.search (rw c.as_slice-records.ensures at c.in_ok-append_records.ensures.appended) c.append_records.ensures.longer
+intake-requires-clause-search c = search-appended c.args.bank.now c.args.search.now c.args.conclusion.now.records c.append_records.new.lines c.requires.search (rw c.as_slice-records.ensures at c.in_ok-append_records.ensures.appended) c.append_records.ensures.longer (conclusion-from c.args.bank.now c.args.search.now c.args.start c.args.conclusion.now c.requires.search c.requires.conclusion)
 
 pub intake-requires-clause-line : goal.intake-requires-clause-line
 intake-requires-clause-line c = rw c.len.ensures (last-there c.args.bank.now c.args.conclusion.now.records c.args.search.now.lines c.append_records.new.lines (rw c.as_slice-records.ensures at c.in_ok-append_records.ensures.appended) c.requires.conclusion.conclusion.some)

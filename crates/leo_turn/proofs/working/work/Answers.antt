@@ -13,7 +13,7 @@ use Rattle.leo_turn.specs.Working.{Makes}
 use Rattle.leo_turn.proofs.Growing.{grows-lines, grows-trans}
 use Rattle.leo_turn.proofs.Lists.{stands-at}
 use Rattle.leo_turn.proofs.Valid.{search-grow}
-use Rattle.leo_turn.proofs.Worked.{due-conclusions, due-constraints, due-numbers, due-typed, due-worked, last-there, search-appended}
+use Rattle.leo_turn.proofs.Worked.{due-conclusions, due-constraints, due-from, due-numbers, due-typed, due-worked, last-there, search-appended}
 use Rattle.leo_turn.proofs.working.work.Goals as goal
 
 pub append_records-requires : goal.append_records-requires
@@ -50,7 +50,7 @@ pub returns-in_err-found-clause-longer : goal.returns-in_err-found-clause-longer
 returns-in_err-found-clause-longer c = grows-lines c.args.search.now c.append_records.new.lines c.append_records.ensures.longer
 
 pub take_conclusions-requires-clause-search : goal.take_conclusions-requires-clause-search
-take_conclusions-requires-clause-search c = search-grow c.conclusions.ensures.grows (with_lines c.args.search.now c.append_records.new.lines) (search-appended c.args.bank.now c.args.search.now c.args.due.now.records c.append_records.new.lines c.requires.search (rw c.as_slice-records.ensures at c.in_ok-append_records.ensures.appended) c.append_records.ensures.longer)
+take_conclusions-requires-clause-search c = search-grow c.conclusions.ensures.grows (with_lines c.args.search.now c.append_records.new.lines) (search-appended c.args.bank.now c.args.search.now c.args.due.now.records c.append_records.new.lines c.requires.search (rw c.as_slice-records.ensures at c.in_ok-append_records.ensures.appended) c.append_records.ensures.longer (due-from c.args.bank.now c.args.search.now c.args.first.now c.args.due.now c.requires.search c.requires.due))
 
 pub take_conclusions-requires-clause-conclusions : goal.take_conclusions-requires-clause-conclusions
 take_conclusions-requires-clause-conclusions c =
