@@ -9,4 +9,12 @@ pub mod Keeping
 pub mod Ordered
 pub mod Checked
 pub mod Falsity
+pub mod Permuting
+pub mod MappedTerms
+pub mod MappedTyping
+pub mod MappedLines
+pub mod MappedSymbols
+pub mod MappedClauses
+pub mod MappedAlike
+pub mod MappedLaw
 pub mod CallerLemmas

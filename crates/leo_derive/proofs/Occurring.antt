@@ -22,7 +22,7 @@ equal_numbers m n h = grind (arith, nat_tests)
 
 -- ---- membership
 
-one_of_append : (s : ℕ) (xs ys : List ℕ) → list_any (nat_eq s) (xs ++ ys) ≡ (list_any (nat_eq s) xs || list_any (nat_eq s) ys)
+pub one_of_append : (s : ℕ) (xs ys : List ℕ) → list_any (nat_eq s) (xs ++ ys) ≡ (list_any (nat_eq s) xs || list_any (nat_eq s) ys)
 one_of_append s [] ys = refl
 one_of_append s (x ∷ xs) ys = rw (one_of_append s xs ys) (assoc (nat_eq s x) (list_any (nat_eq s) xs) (list_any (nat_eq s) ys))
   where

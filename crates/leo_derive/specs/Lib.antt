@@ -1,5 +1,6 @@
 pub mod Resting
 pub mod Pruning
+pub mod Renaming
 pub mod Laws
 pub mod Symbols
 pub mod Marking

@@ -1,4 +1,4 @@
--- The symbols of terms, of clauses and of lines, in the order in which they come. For private contracts.
+-- The symbols of terms, of clauses and of lines, in the order in which they come.
 use Rattle.std.specs.Prelude.{ℕ, ◌≡◌, true, nat_eq, List, [], ◌∷◌, ◌++◌, slice_get, Some}
 use Rattle.std.specs.List.{list_any}
 use Rattle.leo_terms.specs.Tree.{Tree, variable, bound, symbol, app, lam, logic, absent}
