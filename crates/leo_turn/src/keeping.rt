@@ -34,7 +34,7 @@ fn keep(
 {
     let number = search.kept.clauses().len() as u32;
     search.at.push(line)?;
-    search.fronts.push(front)?;
+    search.fronts.add(front)?;
     search.passive.add(number, weight)?;
     match search.kept.add(clause) {
         Ok(_) => Ok(()),
@@ -99,7 +99,7 @@ fn take_leaf(
         alloc,
         bank,
         &search.kept,
-        search.fronts.as_slice(),
+        &search.fronts,
         &leaf.clause,
         limit,
     )?;

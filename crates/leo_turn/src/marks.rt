@@ -60,7 +60,7 @@ pub(crate) fn cut(search: &mut Search, mark: Mark)
     shorten(&mut search.abbr.items, mark.abbr);
     shorten(&mut search.abbr_at, mark.abbr_at);
     shorten(&mut search.at, mark.at);
-    shorten(&mut search.fronts, mark.fronts);
+    search.fronts.cut(mark.fronts);
     let count = search.kept.clauses().len() as u32;
     take_out(&mut search.passive, mark.kept, count);
     search.kept.cut(mark.kept);

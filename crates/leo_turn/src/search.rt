@@ -2,7 +2,7 @@
 
 use leo_clause::{Abbr, StepRecord};
 use leo_items::Items;
-use leo_keep::{Front, Kept};
+use leo_keep::{Fronts, Kept};
 use leo_passive::Passive;
 use leo_terms::TermId;
 
@@ -18,7 +18,7 @@ pub struct Search {
     /// The kept clauses.
     pub kept: Kept,
     /// What quick tests know of each of them.
-    pub fronts: Items<Option<Front>>,
+    pub fronts: Fronts,
     /// The numbers of the active clauses, in the order in which they were given.
     pub active: Items<u32>,
     /// The numbers of the passive clauses, with their weights.

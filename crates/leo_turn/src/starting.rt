@@ -12,7 +12,7 @@ use crate::search::Search;
 use crate::taking::intake;
 use leo_clause::{Abbr, Clause, Lit, Rule, StepRecord};
 use leo_items::Items;
-use leo_keep::Kept;
+use leo_keep::{Fronts, Kept};
 use leo_passive::Passive;
 use leo_terms::{Bank, Op, TermId};
 use std::alloc::{AllocError, Global};
@@ -31,7 +31,7 @@ fn empty(alloc: Global, hyps: &[TermId], depth: u8, weight: u16) -> Result<Searc
         },
         abbr_at: Items::new(alloc),
         kept,
-        fronts: Items::new(alloc),
+        fronts: Fronts::new(alloc),
         active: Items::new(alloc),
         passive,
         lines: Items::new(alloc),
