@@ -17,3 +17,4 @@ pub mod Ahead
 pub mod Places
 pub mod Shapes
 pub mod RuleWords
+pub mod TermWords
