@@ -18,3 +18,6 @@ pub mod Places
 pub mod Shapes
 pub mod RuleWords
 pub mod TermWords
+pub mod ClauseWords
+pub mod LineWords
+pub mod DerivationWords
