@@ -21,3 +21,5 @@ pub mod TermWords
 pub mod ClauseWords
 pub mod LineWords
 pub mod DerivationWords
+pub mod Nameable
+pub mod Atoms
