@@ -115,11 +115,11 @@ number h t = word Number h refl t.digits_end t.spells
 
 -- ---- which texts are words
 
-all-each : (test : ℕ → Bool) (bs : List ℕ) → list_all test bs ≡ true → Each test bs
+pub all-each : (test : ℕ → Bool) (bs : List ℕ) → list_all test bs ≡ true → Each test bs
 all-each test [] e = tt
 all-each test (b ∷ bs) e = let h = both-true (test b) _ e in (h.0, all-each test bs h.1)
 
-lower-word : (text : List ℕ) → is_lower_word text ≡ true → IsWord is_lower text
+pub lower-word : (text : List ℕ) → is_lower_word text ≡ true → IsWord is_lower text
 unfolding is_lower_word
 lower-word [] e = absurd (cc)
 lower-word (b ∷ bs) e = let h = both-true (is_lower b) _ e in (h.0, all-each is_word bs h.1)

@@ -12,3 +12,4 @@ pub mod Placing
 pub mod Typing
 pub mod Cutting
 pub mod CutTerms
+pub mod CutLines
