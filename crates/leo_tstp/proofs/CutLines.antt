@@ -134,10 +134,10 @@ and-tail i text h = record {
       subst (λ b. Tail b (literal_with_then i text behind)) (sym e) (opens (number (decimal-digits i) (comma (h.cut _ _ (closes t.spells)))));
 }
 
-word-cut : {text : List ℕ} → IsWordText text → IsCut text (λ behind. text ∷ behind)
+pub word-cut : {text : List ℕ} → IsWordText text → IsCut text (λ behind. text ∷ behind)
 word-cut h = record { cut = λ rest behind t. put h t }
 
-digits-cut : {text : List ℕ} → IsDigits text → IsCut text (λ behind. text ∷ behind)
+pub digits-cut : {text : List ℕ} → IsDigits text → IsCut text (λ behind. text ∷ behind)
 digits-cut h = record { cut = λ rest behind t. number h t }
 
 side-word : (s : Side) → IsWordText (side_word s)

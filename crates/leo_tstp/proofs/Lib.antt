@@ -13,3 +13,4 @@ pub mod Typing
 pub mod Cutting
 pub mod CutTerms
 pub mod CutLines
+pub mod CutDerivations
