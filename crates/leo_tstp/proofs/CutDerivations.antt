@@ -41,7 +41,7 @@ pub record AreWordsOf (p : Problem) (introduced : List ℕ) (v : Vocabulary) : T
 pub new-word : (prefix : List ℕ) (n : ℕ) → IsWord is_lower prefix → IsWord is_lower (new_name prefix n)
 new-word prefix n h = goes-on prefix (decimal n) h (decimal-word n)
 
-eqb-turn : (a b : ℕ) → nat_eq a b ≡ false → nat_eq b a ≡ false
+pub eqb-turn : (a b : ℕ) → nat_eq a b ≡ false → nat_eq b a ≡ false
 eqb-turn a b e = by (nat_eq b a) refl
   where
     by : (t : Bool) → nat_eq b a ≡ t → t ≡ false

@@ -14,3 +14,4 @@ pub mod Cutting
 pub mod CutTerms
 pub mod CutLines
 pub mod CutDerivations
+pub mod NameWords

@@ -1,6 +1,7 @@
 -- Problems whose names are such as tokens say.
-use Rattle.std.specs.Prelude.{ℕ, Bool, ◌&&◌, nat_le, List, [], ◌∷◌}
+use Rattle.std.specs.Prelude.{ℕ, Bool, ◌&&◌, nat_le, List, [], ◌∷◌, ◌≡◌, None}
 use Rattle.leo_lex.specs.Forms.{Each}
+use Rattle.leo_elab.specs.Problem.{named}
 use Rattle.leo_problem.specs.declared.loaded.Hyp.{Hyp}
 use Rattle.leo_problem.specs.declared.loaded.Problem.{Problem}
 
@@ -27,3 +28,13 @@ pub record HasAtoms (p : Problem) : Type 0 where
   pub types : AreAtoms p.names.types
   pub constants : AreAtoms p.names.constants
   pub statements : AreNamesOfStatements p.hyps
+
+-- no atom stands twice
+abbrev pub AreDistinct : List (List ℕ × ℕ) → Type 0
+AreDistinct [] = Unit {0}
+AreDistinct (p ∷ ps) = (named p.0 ps ≡ None) × AreDistinct ps
+
+-- no atom is declared twice as a type, and none as a constant
+pub record HasDistinctAtoms (p : Problem) : Type 0 where
+  pub types : AreDistinct p.names.types
+  pub constants : AreDistinct p.names.constants

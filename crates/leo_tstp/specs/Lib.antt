@@ -23,3 +23,4 @@ pub mod LineWords
 pub mod DerivationWords
 pub mod Nameable
 pub mod Atoms
+pub mod Readable
