@@ -10,3 +10,8 @@ pub mod Problems
 pub mod Ahead
 pub mod Placing
 pub mod Typing
+pub mod Cutting
+pub mod CutTerms
+pub mod CutLines
+pub mod CutDerivations
+pub mod NameWords

@@ -1,8 +1,15 @@
 -- Laws of the words of derivations.
 use Rattle.std.specs.Prelude.{◌≡◌, ℕ, ◌<◌, ◌⊎◌, nat_eq, true, false, List, [], ◌∷◌, ◌++◌, codes, replicate}
 use Rattle.std.specs.List.{starts_with}
+use Rattle.leo_lex.specs.Spells.{HasTokens}
 use Rattle.leo_elab.specs.Problem.{Declared}
+use Rattle.leo_clause.specs.declared.record.StepRecord.{StepRecord}
+use Rattle.leo_problem.specs.declared.loaded.Problem.{Problem}
 use Rattle.leo_tstp.specs.Vocabulary.{new_prefix}
+use Rattle.leo_tstp.specs.Derivations.{printed}
+use Rattle.leo_tstp.specs.DerivationWords.{printed_words}
+use Rattle.leo_tstp.specs.Atoms.{HasAtoms}
+use Rattle.leo_tstp.specs.Nameable.{IsNameable}
 
 -- `leo_`, `leo__` and so on, by how many `_` follow the first
 abbrev pub prefix_with : ℕ → List ℕ
@@ -29,3 +36,7 @@ pub record IsFirstFree (d : Declared) (prefix : List ℕ) : Type 0 where
 -- the names of abbreviations begin as no atom does, and with the first such prefix
 abbrev pub NewNames : Type 0
 NewNames = (d : Declared) → IsFirstFree d (new_prefix d)
+
+-- the text of a derivation that the problem has names for is cut into these words
+abbrev pub PrintedWords : Type 0
+PrintedWords = (p : Problem) (steps : List StepRecord) → HasAtoms p → IsNameable p steps → HasTokens (printed p steps) (printed_words p steps)

@@ -17,3 +17,10 @@ pub mod Ahead
 pub mod Places
 pub mod Shapes
 pub mod RuleWords
+pub mod TermWords
+pub mod ClauseWords
+pub mod LineWords
+pub mod DerivationWords
+pub mod Nameable
+pub mod Atoms
+pub mod Readable
