@@ -10,3 +10,5 @@ pub mod Problems
 pub mod Ahead
 pub mod Placing
 pub mod Typing
+pub mod Terming
+pub mod TermSteps

@@ -17,3 +17,5 @@ pub mod Ahead
 pub mod Places
 pub mod Shapes
 pub mod RuleWords
+pub mod TermWords
+pub mod TermPlaces
