@@ -1,7 +1,7 @@
 -- The words ahead of a reader.
-use Rattle.std.proofs.Common.{ℕ, zero, suc, ◌≡◌, ◌+◌, ◌≤◌, List, [], ◌∷◌, length, slice_get, Some, None, refl, ap, arith, add-one}
+use Rattle.std.proofs.Common.{ℕ, zero, suc, ◌≡◌, ◌+◌, ◌≤◌, List, [], ◌∷◌, length, slice_get, Some, None, refl, ap, sym, arith, add-one}
 use Rattle.leo_lex.specs.declared.token.Token.{Token}
-use Rattle.leo_tstp.specs.Ahead.{token_word, ahead, first_word}
+use Rattle.leo_tstp.specs.Ahead.{token_word, ahead, first_word, second_word}
 
 pub first-some : (bytes : List ℕ) (ts : List Token) (at : ℕ) (t : Token) → slice_get ts at ≡ Some t → token_word bytes t ≡ first_word (ahead bytes ts at)
 unfolding ahead
@@ -47,3 +47,16 @@ unfolding ahead
 no-token-left bytes [] at h = omega arith
 no-token-left bytes (u ∷ ts) zero h = absurd (cc)
 no-token-left bytes (u ∷ ts) (suc at) h = let k = no-token-left bytes ts at h in omega arith
+
+second-next : (bytes : List ℕ) (ts : List Token) (at : ℕ) → first_word (ahead bytes ts (suc at)) ≡ second_word (ahead bytes ts at)
+unfolding ahead
+second-next bytes [] zero = refl
+second-next bytes [] (suc at) = refl
+second-next bytes (u ∷ ts) zero = refl
+second-next bytes (u ∷ ts) (suc at) = second-next bytes ts at
+
+pub second-first : (bytes : List ℕ) (ts : List Token) (at : ℕ) → first_word (ahead bytes ts (at + 1)) ≡ second_word (ahead bytes ts at)
+second-first bytes ts at = rw add-one (second-next bytes ts at)
+
+pub second-none : (bytes : List ℕ) (ts : List Token) (at : ℕ) → length ts ≤ at → [] ≡ second_word (ahead bytes ts at)
+second-none bytes ts at l = ap second_word (sym (none-left bytes ts at l))

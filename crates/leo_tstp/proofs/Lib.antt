@@ -15,3 +15,5 @@ pub mod CutTerms
 pub mod CutLines
 pub mod CutDerivations
 pub mod NameWords
+pub mod Terming
+pub mod TermSteps

@@ -18,6 +18,11 @@ abbrev pub first_word : List (List ℕ) → List ℕ
 first_word [] = []
 first_word (w ∷ ws) = w
 
+-- the word behind the first
+abbrev pub second_word : List (List ℕ) → List ℕ
+second_word [] = []
+second_word (w ∷ ws) = first_word ws
+
 -- the words that a reader has not passed
 abbrev pub ahead_of : Reader → List (List ℕ)
 ahead_of r = ahead r.bytes.now r.tokens.now r.at

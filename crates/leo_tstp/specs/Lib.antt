@@ -24,3 +24,4 @@ pub mod DerivationWords
 pub mod Nameable
 pub mod Atoms
 pub mod Readable
+pub mod TermPlaces

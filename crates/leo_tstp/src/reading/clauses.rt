@@ -76,8 +76,7 @@ impl Reader<'_> {
 
     /// Whether a bracket opens and a term stands behind it.
     fn opens_term(&self) -> bool {
-        let next = self.at.saturating_add(1);
-        self.sees(b"(") && matches!(opening_of(self.word_at(next)), Opening::Other)
+        self.sees(b"(") && matches!(opening_of(self.word_behind()), Opening::Other)
     }
 
     /// What a bracket of a clause begins with.

@@ -7,6 +7,7 @@ ghost use Rattle.leo_clause.specs.Typed.{AreTypesOf};
 ghost use Rattle.leo_tstp.specs.Built.{AreSymbolNumbers, IsNumbering};
 ghost use Rattle.leo_tstp.specs.Known.{IsKnown};
 ghost use Rattle.leo_tstp.specs.Places.{word_place};
+ghost use Rattle.leo_tstp.specs.TermPlaces.{symbol_place};
 
 use crate::building::numbers::Numbers;
 use crate::reading::trees::{ROOM, TypeNode, Types};
@@ -31,6 +32,13 @@ impl Lexicon {
         ensures { result ≡ word_place self.now word.now }
     {
         self.types.get(word).copied()
+    }
+
+    /// The place of the symbol that a word stands for.
+    pub(crate) fn symbol_named(&self, word: &[u8]) -> Option<usize>
+        ensures { result ≡ symbol_place self.now word.now }
+    {
+        self.symbols.get(word).copied()
     }
 }
 

@@ -2,9 +2,11 @@
 
 ghost use Rattle.std.specs.Prelude.{◌≡◌, true, IfNone, IfSome};
 ghost use Rattle.leo_q0.specs.Terms.{SimpleType, arrow};
+ghost use Rattle.leo_terms.specs.Tree.{truth_type};
 ghost use Rattle.leo_terms.specs.Contents.{IsShared};
 ghost use Rattle.leo_tstp.specs.declared.reading.lexicon.Lexicon.{Lexicon};
 ghost use Rattle.leo_tstp.specs.Places.{Fits, IsPlace};
+ghost use Rattle.leo_tstp.specs.TermPlaces.{IsFound};
 ghost use Rattle.leo_tstp.specs.Vocabulary.{Vocabulary};
 
 use crate::reading::trees::{TRUTH, TypeNode, Types};
@@ -32,6 +34,16 @@ pub(crate) fn parts<'a>(types: &Types, pattern: Pattern<'a>) -> Option<(Pattern<
     }
 }
 
+/// The type that functions of a type take.
+pub(crate) fn domain(types: &Types, ty: usize) -> Option<usize>
+    ensures { (v : Vocabulary) (l : Lexicon) (a b : SimpleType) → IsPlace v l types.now.nodes.keys (arrow a b) ty → IsFound result (IsPlace v l types.now.nodes.keys a) }
+{
+    match types.node(ty) {
+        Some(TypeNode::Arrow(from, _)) => Some(from),
+        _ => None,
+    }
+}
+
 /// Whether a type fits. Patterns stand in one another as brackets do, so that `room` levels are enough.
 pub(crate) fn fits(types: &Types, pattern: &Pattern<'_>, ty: usize) -> bool
     ensures { (v : Vocabulary) (l : Lexicon) (a : SimpleType) → IsShared types.now.nodes.keys → IsPlace v l types.now.nodes.keys a ty → Fits v l types.now.nodes.keys pattern.now a → result ≡ true }
@@ -47,6 +59,8 @@ pub(crate) fn fits(types: &Types, pattern: &Pattern<'_>, ty: usize) -> bool
 }
 
 /// Whether `$o` fits.
-pub(crate) fn takes_truth(types: &Types, pattern: &Pattern<'_>) -> bool {
+pub(crate) fn takes_truth(types: &Types, pattern: &Pattern<'_>) -> bool
+    ensures { (v : Vocabulary) (l : Lexicon) → IsShared types.now.nodes.keys → IsPlace v l types.now.nodes.keys truth_type 0 → Fits v l types.now.nodes.keys pattern.now truth_type → result ≡ true }
+{
     fits(types, pattern, TRUTH)
 }

@@ -1,9 +1,9 @@
 //! A text with the place of its next token.
 
-ghost use Rattle.std.specs.Prelude.{◌≡◌, ◌≤◌, ◌<◌, ◌^◌, ◌∷◌, ◌↔◌, List, ℕ, Some, IsTrue, map};
+ghost use Rattle.std.specs.Prelude.{◌≡◌, ◌≢◌, ◌≤◌, ◌<◌, ◌^◌, ◌∷◌, ◌↔◌, List, ℕ, Some, None, IsTrue, map, slice_get};
 ghost use Rattle.std.specs.Prelude as spec;
 ghost use Rattle.std.specs.Str.{bytes_eq};
-ghost use Rattle.leo_tstp.specs.Ahead.{IsTaken, Passes, TakesWord, TakesWords, ahead, ahead_of, first_word, token_word};
+ghost use Rattle.leo_tstp.specs.Ahead.{IsTaken, Passes, TakesWord, TakesWords, ahead, ahead_of, first_word, second_word, token_word};
 
 use crate::reading::lexicon::Lexicon;
 use crate::reading::trees::Types;
@@ -54,7 +54,8 @@ pub(crate) fn decimal(text: &[u8]) -> Option<u64>
 
 /// The number behind a letter.
 pub(crate) fn number_behind(text: &[u8], letter: u8) -> Option<u64>
-    ensures { (n : ℕ) → n < 2 ^ 64 → text.now ≡ letter ∷ spec.decimal n → result ≡ Some n }
+    ensures reads { (n : ℕ) → n < 2 ^ 64 → text.now ≡ letter ∷ spec.decimal n → result ≡ Some n }
+    ensures other { (b : ℕ) (bs : List ℕ) → text.now ≡ b ∷ bs → b ≢ letter → result ≡ None }
 {
     match text.split_first() {
         Some((first, rest)) => {
@@ -66,6 +67,13 @@ pub(crate) fn number_behind(text: &[u8], letter: u8) -> Option<u64>
         }
         None => None,
     }
+}
+
+/// The number at a place of a list.
+pub(crate) fn number_at(numbers: &[usize], place: usize) -> Option<usize>
+    ensures { result ≡ slice_get numbers.now place }
+{
+    numbers.get(place).copied()
 }
 
 pub(crate) fn is(word: &[u8], text: &[u8]) -> bool
@@ -95,6 +103,17 @@ impl<'a> Reader<'a> {
         match self.tokens.get(at) {
             Some(token) => text_at(self.bytes, token),
             None => b"",
+        }
+    }
+
+    /// The bytes of the token behind the next.
+    pub(crate) fn word_behind(&self) -> &'a [u8]
+        ensures { result.now ≡ second_word (ahead_of self.now) }
+    {
+        if self.at < self.tokens.len() {
+            self.word_at(self.at + 1)
+        } else {
+            b""
         }
     }
 

@@ -1,11 +1,17 @@
 //! Terms as they are read.
 
-ghost use Rattle.std.specs.Prelude.{◌≡◌, OnOk};
+ghost use Rattle.std.specs.Prelude.{◌≡◌, ◌≢◌, ◌<◌, ◌^◌, ◌-◌, ◌∷◌, ◌++◌, ℕ, List, Some, None, OnOk, codes, decimal, length, slice_get};
+ghost use Rattle.leo_q0.specs.Terms.{SimpleType};
+ghost use Rattle.leo_terms.specs.Tree.{bound, connective_type, symbol, truth_type, variable};
+ghost use Rattle.leo_tstp.specs.declared.reading.lexicon.Lexicon.{Lexicon};
+ghost use Rattle.leo_tstp.specs.Vocabulary.{Vocabulary};
 ghost use Rattle.leo_tstp.specs.Shapes.{between, opening};
-ghost use Rattle.leo_tstp.specs.Places.{GoesOn, TakesBinder};
+ghost use Rattle.leo_tstp.specs.Ahead.{IsTaken, ahead_of, first_word, second_word};
+ghost use Rattle.leo_tstp.specs.Places.{Fits, GoesOn, IsPlace, TakesBinder};
+ghost use Rattle.leo_tstp.specs.TermPlaces.{FindsAtom, IsAround, IsFound, IsKnownSymbol, IsSaid, TakesApplication, TakesAtom, TakesBehind, TakesEquation, TakesFirst, TakesInside, TakesJoined, TakesLambda, TakesNegation, TakesOver, TakesQuantified, TakesSet, TakesTerm, TakesUnder, quantified_by};
 
-use crate::reading::patterns::{Pattern, fits, parts, takes_truth};
-use crate::reading::source::{Reader, is, number_behind};
+use crate::reading::patterns::{Pattern, domain, fits, parts, takes_truth};
+use crate::reading::source::{Reader, is, number_at, number_behind};
 use crate::reading::trees::{Joint, Parsed, Quantifier, ROOM, TRUTH, TypeNode, Typed};
 use crate::refusal::Stop;
 use leo_items::Boxed;
@@ -73,18 +79,40 @@ fn sign_of(word: &[u8]) -> Option<Between>
     }
 }
 
+/// The number, if it is one of a variable.
+fn small(number: u64) -> Option<u32>
+    ensures { number < 2 ^ 32 → result ≡ Some number }
+{
+    u32::try_from(number).ok()
+}
+
 /// The type of a quantifier over things of a type.
-fn quantified_type(quantifier: Quantifier, of: usize) -> usize {
+fn quantified_type(quantifier: Quantifier, of: usize) -> usize
+    ensures { (v : Vocabulary) (l : Lexicon) (ns : List TypeNode) (a : SimpleType) → IsPlace v l ns truth_type 0 → IsPlace v l ns a of → IsPlace v l ns (connective_type (quantified_by quantifier a)) result }
+{
     match quantifier {
         Quantifier::Choice => of,
         Quantifier::All | Quantifier::Some => TRUTH,
     }
 }
 
+/// The types of the things that a quantifier of a type that fits is over.
+fn element_of<'a>(quantifier: Quantifier, asked: Pattern<'a>) -> Pattern<'a>
+    ensures { (v : Vocabulary) (l : Lexicon) (ns : List TypeNode) (a : SimpleType) → Fits v l ns asked.entry (connective_type (quantified_by quantifier a)) → Fits v l ns result a }
+{
+    match quantifier {
+        Quantifier::Choice => asked,
+        Quantifier::All | Quantifier::Some => Pattern::Any,
+    }
+}
+
 impl Reader<'_> {
     /// A term of a type that fits.
     #[cycle(term)]
-    pub(crate) fn term(&mut self, asked: Pattern<'_>, room: u32) -> Result<Typed, Stop> {
+    pub(crate) fn term(&mut self, asked: Pattern<'_>, room: u32) -> Result<Typed, Stop>
+        ensures takes { TakesTerm self.old asked.entry result self.new }
+        ensures goes { OnOk result (GoesOn self.old self.new) }
+    {
         let Some(room) = room.checked_sub(1) else {
             return Err(Stop::Memory);
         };
@@ -98,7 +126,10 @@ impl Reader<'_> {
         }
     }
 
-    fn atom(&mut self, asked: Pattern<'_>) -> Result<Typed, Stop> {
+    fn atom(&mut self, asked: Pattern<'_>) -> Result<Typed, Stop>
+        ensures takes { TakesAtom self.old asked.entry result self.new }
+        ensures goes { OnOk result (GoesOn self.old self.new) }
+    {
         let Some(found) = self.next_atom() else {
             return Err(Stop::Refused);
         };
@@ -110,7 +141,9 @@ impl Reader<'_> {
     }
 
     /// The term that the next token is.
-    fn next_atom(&self) -> Option<Typed> {
+    fn next_atom(&self) -> Option<Typed>
+        ensures { FindsAtom self.now result }
+    {
         let word = self.word();
         if is(word, b"$true") {
             return Some(Typed {
@@ -127,33 +160,52 @@ impl Reader<'_> {
         if let Some(number) = number_behind(word, b'X') {
             return self.variable(number);
         }
-        if let Some(number) = number_behind(word, b'Y') {
-            return self.level(number);
+        if let Some(place) = self.level_named(word) {
+            return self.level(place);
         }
         self.symbol(word)
     }
 
-    fn variable(&self, number: u64) -> Option<Typed> {
-        let place = u32::try_from(number).ok()?;
-        let ty = self.variables.get(place as usize).copied()?;
+    fn variable(&self, number: u64) -> Option<Typed>
+        ensures { (v : Vocabulary) (vs s : List SimpleType) (a : SimpleType) → IsAround v self.now vs s → number < 2 ^ 32 → slice_get vs number ≡ Some a → IsFound result (IsSaid v self.now (length self.now.scope.items) (variable number a)) }
+    {
+        let place = small(number)?;
+        let ty = number_at(self.variables.as_slice(), place as usize)?;
         Some(Typed {
             term: Parsed::Variable(place),
             ty,
         })
     }
 
-    fn level(&self, number: u64) -> Option<Typed> {
-        let place = number as usize;
-        let ty = self.scope.get(place).copied()?;
+    /// The level that a word names, if there are so many.
+    fn level_named(&self, word: &[u8]) -> Option<usize>
+        ensures reads { (n : ℕ) → n < length self.now.scope.items → word.now ≡ codes "Y" ++ decimal n → result ≡ Some n }
+        ensures other { (b : ℕ) (bs : List ℕ) → word.now ≡ b ∷ bs → b ≢ 89 → result ≡ None }
+    {
+        let levels = self.scope.len() as u64;
+        let number = number_behind(word, b'Y')?;
+        if number < levels {
+            Some(number as usize)
+        } else {
+            None
+        }
+    }
+
+    fn level(&self, place: usize) -> Option<Typed>
+        ensures { (v : Vocabulary) (vs s : List SimpleType) (i : ℕ) (a : SimpleType) → IsAround v self.now vs s → slice_get s i ≡ Some a → place ≡ (length self.now.scope.items - i) - 1 → IsFound result (IsSaid v self.now (length self.now.scope.items) (bound i a)) }
+    {
+        let ty = number_at(self.scope.as_slice(), place)?;
         Some(Typed {
             term: Parsed::Level(place),
             ty,
         })
     }
 
-    fn symbol(&self, word: &[u8]) -> Option<Typed> {
-        let place = self.lexicon.symbols.get(word).copied()?;
-        let ty = self.lexicon.symbol_types.get(place).copied()?;
+    fn symbol(&self, word: &[u8]) -> Option<Typed>
+        ensures { (v : Vocabulary) (s : ℕ) (a : SimpleType) → word.now ≡ v.symbol_word s → IsKnownSymbol v self.now.lexicon self.now.types.nodes.keys s a → IsFound result (IsSaid v self.now (length self.now.scope.items) (symbol s a)) }
+    {
+        let place = self.lexicon.symbol_named(word)?;
+        let ty = number_at(self.lexicon.symbol_types.as_slice(), place)?;
         Some(Typed {
             term: Parsed::Symbol(place),
             ty,
@@ -162,7 +214,10 @@ impl Reader<'_> {
 
     /// What stands between brackets.
     #[cycle(term)]
-    fn inside(&mut self, asked: Pattern<'_>, room: u32) -> Result<Typed, Stop> {
+    fn inside(&mut self, asked: Pattern<'_>, room: u32) -> Result<Typed, Stop>
+        ensures takes { TakesInside self.old asked.entry result self.new }
+        ensures goes { OnOk result (GoesOn self.old self.new) }
+    {
         match opening_of(self.word()) {
             Opening::Lambda => self.lambda(asked, room),
             Opening::Binder(quantifier) => self.quantified(quantifier, asked, room),
@@ -176,7 +231,10 @@ impl Reader<'_> {
     }
 
     #[cycle(term)]
-    fn lambda(&mut self, asked: Pattern<'_>, room: u32) -> Result<Typed, Stop> {
+    fn lambda(&mut self, asked: Pattern<'_>, room: u32) -> Result<Typed, Stop>
+        ensures takes { TakesLambda self.old asked.entry result self.new }
+        ensures goes { OnOk result (GoesOn self.old self.new) }
+    {
         let Some((from, to)) = parts(&self.types, asked) else {
             return Err(Stop::Refused);
         };
@@ -207,7 +265,10 @@ impl Reader<'_> {
 
     /// A body under a binder's variable.
     #[cycle(term)]
-    fn under(&mut self, of: usize, asked: Pattern<'_>, room: u32) -> Result<Typed, Stop> {
+    fn under(&mut self, of: usize, asked: Pattern<'_>, room: u32) -> Result<Typed, Stop>
+        ensures takes { TakesUnder self.old of asked.entry result self.new }
+        ensures goes { OnOk result (GoesOn self.old self.new) }
+    {
         self.scope.push(of)?;
         let body = self.term(asked, room)?;
         let _ = self.scope.pop();
@@ -221,7 +282,10 @@ impl Reader<'_> {
         quantifier: Quantifier,
         asked: Pattern<'_>,
         room: u32,
-    ) -> Result<Typed, Stop> {
+    ) -> Result<Typed, Stop>
+        ensures takes { TakesQuantified self.old quantifier asked.entry result self.new }
+        ensures goes { OnOk result (GoesOn self.old self.new) }
+    {
         let of = self.over(quantifier, asked)?;
         let body = self.under(of, Pattern::Type(TRUTH), room)?;
         let body = Boxed::new(self.alloc, body.term)?;
@@ -233,22 +297,29 @@ impl Reader<'_> {
     }
 
     /// The type of the variable of a quantifier or choice.
-    fn over(&mut self, quantifier: Quantifier, asked: Pattern<'_>) -> Result<usize, Stop> {
+    fn over(&mut self, quantifier: Quantifier, asked: Pattern<'_>) -> Result<usize, Stop>
+        ensures takes { TakesOver self.old quantifier asked.entry result self.new }
+        ensures goes { OnOk result (GoesOn self.old self.new) }
+    {
+        self.want_quantified(quantifier, asked)?;
+        self.pass();
+        self.binder(element_of(quantifier, asked))
+    }
+
+    /// Refuses the next token where no type of the quantifier or choice fits.
+    fn want_quantified(&self, quantifier: Quantifier, asked: Pattern<'_>) -> Result<(), Stop>
+        ensures { (v : Vocabulary) (vs s : List SimpleType) (a : SimpleType) → IsAround v self.now vs s → Fits v self.now.lexicon self.now.types.nodes.keys asked.entry (connective_type (quantified_by quantifier a)) → IsTaken result (λ _. Unit {0}) }
+    {
         match quantifier {
-            Quantifier::Choice => {
-                self.pass();
-                self.binder(asked)
-            }
-            Quantifier::All | Quantifier::Some => {
-                self.want_truth(asked)?;
-                self.pass();
-                self.binder(Pattern::Any)
-            }
+            Quantifier::Choice => Ok(()),
+            Quantifier::All | Quantifier::Some => self.want_truth(asked),
         }
     }
 
     /// Refuses the next token where `$o` does not fit.
-    fn want_truth(&self, asked: Pattern<'_>) -> Result<(), Stop> {
+    fn want_truth(&self, asked: Pattern<'_>) -> Result<(), Stop>
+        ensures { (v : Vocabulary) (vs s : List SimpleType) → IsAround v self.now vs s → Fits v self.now.lexicon self.now.types.nodes.keys asked.entry truth_type → IsTaken result (λ _. Unit {0}) }
+    {
         if takes_truth(&self.types, &asked) {
             Ok(())
         } else {
@@ -258,24 +329,17 @@ impl Reader<'_> {
 
     /// A quantifier or choice that is applied to a set, which is no lambda.
     #[cycle(term)]
-    fn set(
-        &mut self,
-        quantifier: Quantifier,
-        asked: Pattern<'_>,
-        room: u32,
-    ) -> Result<Typed, Stop> {
-        let element = match quantifier {
-            Quantifier::Choice => asked,
-            Quantifier::All | Quantifier::Some => {
-                self.want_truth(asked)?;
-                Pattern::Any
-            }
-        };
+    fn set(&mut self, quantifier: Quantifier, asked: Pattern<'_>, room: u32) -> Result<Typed, Stop>
+        ensures takes { TakesSet self.old quantifier asked.entry result self.new }
+        ensures goes { OnOk result (GoesOn self.old self.new) }
+    {
+        self.want_quantified(quantifier, asked)?;
+        let element = element_of(quantifier, asked);
         self.pass();
         self.take(b"@")?;
         self.want_no_lambda()?;
         let set = self.term(Pattern::Function(&element, &Pattern::Type(TRUTH)), room)?;
-        let Some(TypeNode::Arrow(of, _)) = self.types.node(set.ty) else {
+        let Some(of) = domain(&self.types, set.ty) else {
             return Err(Stop::Refused);
         };
         let set = Boxed::new(self.alloc, set.term)?;
@@ -286,9 +350,11 @@ impl Reader<'_> {
     }
 
     /// Refuses a lambda at its sign.
-    fn want_no_lambda(&mut self) -> Result<(), Stop> {
-        let next = self.at.saturating_add(1);
-        if self.sees(b"(") && is(self.word_at(next), b"^") {
+    fn want_no_lambda(&mut self) -> Result<(), Stop>
+        ensures takes { (first_word (ahead_of self.old) ≡ codes "(" → second_word (ahead_of self.old) ≡ codes "^" → ⊥) → IsTaken result (λ _. Unit {0}) }
+        ensures stays { OnOk result (self.new ≡ self.old) }
+    {
+        if self.sees(b"(") && is(self.word_behind(), b"^") {
             self.pass();
             return Err(Stop::Refused);
         }
@@ -296,7 +362,10 @@ impl Reader<'_> {
     }
 
     #[cycle(term)]
-    fn negation(&mut self, asked: Pattern<'_>, room: u32) -> Result<Typed, Stop> {
+    fn negation(&mut self, asked: Pattern<'_>, room: u32) -> Result<Typed, Stop>
+        ensures takes { TakesNegation self.old asked.entry result self.new }
+        ensures goes { OnOk result (GoesOn self.old self.new) }
+    {
         self.want_truth(asked)?;
         self.pass();
         let formula = self.term(Pattern::Type(TRUTH), room)?;
@@ -309,7 +378,10 @@ impl Reader<'_> {
 
     /// The first of two terms, of which the whole has a type that fits.
     #[cycle(term)]
-    fn first(&mut self, asked: Pattern<'_>, room: u32) -> Result<Typed, Stop> {
+    fn first(&mut self, asked: Pattern<'_>, room: u32) -> Result<Typed, Stop>
+        ensures takes { TakesFirst self.old asked.entry result self.new }
+        ensures goes { OnOk result (GoesOn self.old self.new) }
+    {
         if takes_truth(&self.types, &asked) {
             self.term(Pattern::Any, room)
         } else {
@@ -324,7 +396,10 @@ impl Reader<'_> {
         first: Typed,
         asked: Pattern<'_>,
         room: u32,
-    ) -> Result<Typed, Stop> {
+    ) -> Result<Typed, Stop>
+        ensures takes { TakesBehind self.old first asked.entry result self.new }
+        ensures goes { OnOk result (GoesOn self.old self.new) }
+    {
         match sign_of(self.word()) {
             Some(Between::Apply) => self.application(first, asked, room),
             Some(Between::Join(joint)) => self.joined(joint, first, asked, room),
@@ -334,12 +409,10 @@ impl Reader<'_> {
     }
 
     #[cycle(term)]
-    fn application(
-        &mut self,
-        function: Typed,
-        asked: Pattern<'_>,
-        room: u32,
-    ) -> Result<Typed, Stop> {
+    fn application(&mut self, function: Typed, asked: Pattern<'_>, room: u32) -> Result<Typed, Stop>
+        ensures takes { TakesApplication self.old function asked.entry result self.new }
+        ensures goes { OnOk result (GoesOn self.old self.new) }
+    {
         let Some(TypeNode::Arrow(from, to)) = self.types.node(function.ty) else {
             return Err(Stop::Refused);
         };
@@ -363,7 +436,10 @@ impl Reader<'_> {
         first: Typed,
         asked: Pattern<'_>,
         room: u32,
-    ) -> Result<Typed, Stop> {
+    ) -> Result<Typed, Stop>
+        ensures takes { TakesJoined self.old joint first asked.entry result self.new }
+        ensures goes { OnOk result (GoesOn self.old self.new) }
+    {
         self.want_truth(asked)?;
         if first.ty != TRUTH {
             return Err(Stop::Refused);
@@ -379,7 +455,10 @@ impl Reader<'_> {
     }
 
     #[cycle(term)]
-    fn equation(&mut self, first: Typed, asked: Pattern<'_>, room: u32) -> Result<Typed, Stop> {
+    fn equation(&mut self, first: Typed, asked: Pattern<'_>, room: u32) -> Result<Typed, Stop>
+        ensures takes { TakesEquation self.old first asked.entry result self.new }
+        ensures goes { OnOk result (GoesOn self.old self.new) }
+    {
         self.want_truth(asked)?;
         self.pass();
         let second = self.term(Pattern::Type(first.ty), room)?;
