@@ -138,11 +138,7 @@ fn row_of(
 }
 
 /// What quick tests know of clauses.
-fn fronts_of(
-    alloc: Global,
-    bank: &Bank,
-    clauses: &[Clause],
-) -> Result<Fronts, AllocError>
+fn fronts_of(alloc: Global, bank: &Bank, clauses: &[Clause]) -> Result<Fronts, AllocError>
     requires { AreClausesOf bank.now clauses.now }
     ensures { IfOk result (AreFronts bank.now clauses.now) }
 {
