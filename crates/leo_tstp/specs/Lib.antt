@@ -25,3 +25,4 @@ pub mod Nameable
 pub mod Atoms
 pub mod Readable
 pub mod TermPlaces
+pub mod Numbered
